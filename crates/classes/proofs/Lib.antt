@@ -1,0 +1,10 @@
+-- What the proofs of several functions use, and what the crates above cite.
+pub mod LetterLaws
+pub mod TableLaws
+pub mod NameLaws
+pub mod WordLaws
+pub mod MemberLaws
+pub mod SizeLaws
+pub mod ScanLaws
+pub mod ClassLaws
+pub mod PlainLaws

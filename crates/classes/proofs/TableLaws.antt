@@ -1,0 +1,24 @@
+-- A test of every number below a bound, which is computed, and what it says of each: a table's rule is one such test.
+use mathlib.Core.Path.{_≡_, refl, ap, _∙_}
+use mathlib.Core.Logic.{⊎-elim}
+use mathlib.Core.Bool.{Bool, true, false, _&&_, false≢true}
+use Prim.Native.Nat.{ℕ, zero, suc, _<_}
+use native.Mathlib.Nat.{not-suc-le-zero, le-of-suc-le-suc, eq-or-lt-of-le}
+
+abbrev pub allBelow : ℕ → (ℕ → Bool) → Bool
+allBelow zero f = true
+allBelow (suc n) f = f n && allBelow n f
+
+pub and-split : (a b : Bool) → (a && b) ≡ true → (a ≡ true) × (b ≡ true)
+and-split true b e = (refl, e)
+and-split false b e = absurd (false≢true e)
+
+pub all-at : (n : ℕ) (f : ℕ → Bool) → allBelow n f ≡ true → (k : ℕ) → k < n → f k ≡ true
+all-at zero f e k h = absurd (not-suc-le-zero h)
+all-at (suc n) f e k h =
+    let both = and-split (f n) (allBelow n f) e in
+    ⊎-elim (λ (q : k ≡ n). ap f q ∙ both .0) (λ (l : k < n). all-at n f (both .1) k l) (eq-or-lt-of-le (le-of-suc-le-suc h))
+
+-- the same of a table with rows of m entries
+pub all-at-rows : (n m : ℕ) (f : ℕ → ℕ → Bool) → allBelow n (λ k. allBelow m (f k)) ≡ true → (k j : ℕ) → k < n → j < m → f k j ≡ true
+all-at-rows n m f e k j hk hj = all-at m (f k) (all-at n (λ i. allBelow m (f i)) e k hk) j hj

@@ -1,0 +1,148 @@
+-- A name as one number: two names are the same where their numbers are, and the rule of the table that holds the twelve.
+use mathlib.Core.Path.{_≡_, refl, sym, ap, subst, _∙_}
+use mathlib.Core.Bool.{Bool, true, false, cond, _&&_, and-false}
+use mathlib.Core.List.{List, [], _∷_}
+use Prim.Native.Nat.{ℕ, zero, suc, _+_, _-_, _*_, _^_, _<_, _≤_}
+use native.Mathlib.Numerals.{add-one}
+use native.Mathlib.Nat.{zero-add}
+use native.Mathlib.Omega.{arith}
+use lib.Dec.{eqb, leb, ltb}
+use lib.ListN.{length, getD, drop, length-drop, drop-of-length-le}
+use lib.Seq.{drop-cons, getD-drop}
+use borrow.Author.Tests.{eq-eqb, ne-eqb, eqb-true, eqb-false, ltb-true, leb-true, leb-false, le-leb, lt-leb}
+use Rattle.classes.proofs.TableLaws.{all-at, and-split}
+use Rattle.classes.specs.Names.{names, sameBytes, placeIn, whichName}
+use Rattle.classes.specs.Tables.{packed, wordOf, nameWords}
+
+-- every element is a byte
+abbrev pub Bytes : List ℕ → Type 0
+Bytes s = (i : ℕ) → getD s i 0 < 256
+
+-- The number of a name.
+
+packed-pos : (s : List ℕ) → 1 ≤ packed s
+unfolding packed
+packed-pos [] = omega arith
+packed-pos (x ∷ s) = let h = packed-pos s in omega arith
+
+digits : (p q x y : ℕ) → x < 256 → y < 256 → eqb x y && eqb p q ≡ eqb (p * 256 + x) (q * 256 + y)
+digits p q x y hx hy = go (eqb x y) refl (eqb p q) refl
+  where
+    go : (t : Bool) → eqb x y ≡ t → (u : Bool) → eqb p q ≡ u → t && u ≡ eqb (p * 256 + x) (q * 256 + y)
+    go true e true f = let a = eqb-true x y e in let b = eqb-true p q f in sym (eq-eqb (p * 256 + x) (q * 256 + y) (omega arith))
+    go true e false f = sym (ne-eqb (p * 256 + x) (q * 256 + y) (λ z. eqb-false p q f (omega arith)))
+    go false e u f = sym (ne-eqb (p * 256 + x) (q * 256 + y) (λ z. eqb-false x y e (omega arith)))
+
+packed-same : (a b : List ℕ) → Bytes a → Bytes b → sameBytes a b ≡ eqb (packed a) (packed b)
+unfolding sameBytes packed
+packed-same [] [] ha hb = refl
+packed-same [] (y ∷ b) ha hb = let h = packed-pos b in sym (ne-eqb 1 (packed b * 256 + y) (λ z. omega arith))
+packed-same (x ∷ a) [] ha hb = let h = packed-pos a in sym (ne-eqb (packed a * 256 + x) 1 (λ z. omega arith))
+packed-same (x ∷ a) (y ∷ b) ha hb =
+    ap (λ (t : Bool). eqb x y && t) (packed-same a b (λ i. ha (suc i)) (λ i. hb (suc i))) ∙ digits (packed a) (packed b) x y (ha 0) (hb 0)
+
+-- what n bytes stay below
+abbrev bound : ℕ → ℕ
+bound zero = 2
+bound (suc n) = bound n * 256
+
+packed-small : (s : List ℕ) → Bytes s → packed s < bound (length s)
+unfolding packed
+packed-small [] h = omega arith
+packed-small (x ∷ s) h = let l = packed-small s (λ i. h (suc i)) in let b = h 0 in omega arith
+
+-- The loop over the bytes of a name, from its end.
+
+pub word-end : (s : List ℕ) → 1 ≡ packed (drop (length s) s)
+unfolding packed
+word-end s = rw (drop-of-length-le s {i = length s} (omega arith)) refl
+
+module _ (s : List ℕ) (i word : ℕ) (hi : 0 < i) (h : i ≤ length s) (e : word ≡ packed (drop i s)) where
+  pub word-more : word * 256 + getD s (i - 1) 0 ≡ packed (drop (i - 1) s)
+  unfolding packed
+  word-more =
+      let f : i ≡ suc (i - 1) = omega arith in
+      ap (λ (w : ℕ). w * 256 + getD s (i - 1) 0) (e ∙ ap (λ (n : ℕ). packed (drop n s)) f) ∙ ap packed (sym (drop-cons s (i - 1) 0 (omega arith)))
+
+  pub word-fits : Bytes s → length s ≤ 7 → word * 256 + getD s (i - 1) 0 < 2 ^ 64
+  word-fits b l =
+      let m = packed-small (drop (i - 1) s) (λ j. subst (λ (x : ℕ). x < 256) (sym (getD-drop (i - 1) s j 0)) (b (i - 1 + j))) in
+      let n : length (drop (i - 1) s) < 8 = simp length-drop (omega arith) in
+      let k = leb-true (bound (length (drop (i - 1) s))) (bound 7) (all-at 8 (λ n. leb (bound n) (bound 7)) refl (length (drop (i - 1) s)) n) in
+      omega (arith, word-more)
+
+pub word-long : (s : List ℕ) → 7 < length s → 0 ≡ wordOf s
+unfolding wordOf
+word-long s h = rw (lt-leb _ _ h) refl
+
+pub word-whole : (s : List ℕ) (i word : ℕ) → length s ≤ 7 → i ≤ 0 → word ≡ packed (drop i s) → word ≡ wordOf s
+unfolding wordOf
+word-whole s zero word h l e = rw (le-leb _ _ h) e
+word-whole s (suc i) word h l e = absurd (omega arith)
+
+-- The twelve names.
+
+-- the table's rule
+word-rule : (k : ℕ) → k < 12 → getD nameWords k 0 ≡ packed (getD names k [])
+unfolding names packed
+word-rule k h = eqb-true _ _ (all-at 12 (λ i. eqb (getD nameWords i 0) (packed (getD names i []))) refl k h)
+
+-- its names are bytes, and none has more than seven
+abbrev small : List ℕ → Bool
+small [] = true
+small (x ∷ s) = ltb x 256 && small s
+
+small-bytes : (s : List ℕ) → small s ≡ true → Bytes s
+small-bytes [] e i = omega arith
+small-bytes (x ∷ s) e zero = ltb-true x 256 (and-split (ltb x 256) (small s) e .0)
+small-bytes (x ∷ s) e (suc i) = small-bytes s (and-split (ltb x 256) (small s) e .1) i
+
+name-bytes : (k : ℕ) → k < 12 → Bytes (getD names k [])
+unfolding names
+name-bytes k h = small-bytes (getD names k []) (all-at 12 (λ i. small (getD names i [])) refl k h)
+
+name-short : (k : ℕ) → k < 12 → length (getD names k []) ≤ 7
+unfolding names
+name-short k h = leb-true _ _ (all-at 12 (λ i. leb (length (getD names i [])) 7) refl k h)
+
+same-length : (a b : List ℕ) → (length a ≡ length b → ⊥) → sameBytes a b ≡ false
+unfolding sameBytes
+same-length [] [] h = absurd (h refl)
+same-length [] (y ∷ b) h = refl
+same-length (x ∷ a) [] h = refl
+same-length (x ∷ a) (y ∷ b) h = rw (same-length a b (λ e. h (ap suc e))) (and-false (eqb x y))
+
+word-same : (a : List ℕ) (k : ℕ) → k < 12 → Bytes a → sameBytes a (getD names k []) ≡ eqb (wordOf a) (getD nameWords k 0)
+unfolding wordOf
+word-same a k hk b = rw (word-rule k hk) (go (leb (length a) 7) refl)
+  where
+    go : (t : Bool) → leb (length a) 7 ≡ t → sameBytes a (getD names k []) ≡ eqb (cond t (packed a) 0) (packed (getD names k []))
+    go true e = packed-same a (getD names k []) b (name-bytes k hk)
+    go false e =
+        let l = leb-false (length a) 7 e in
+        let m = name-short k hk in
+        let p = packed-pos (getD names k []) in
+        same-length a (getD names k []) (λ z. omega arith) ∙ sym (ne-eqb 0 (packed (getD names k [])) (λ z. omega arith))
+
+-- The place of a name among the twelve: it is not among the first k.
+abbrev pub NotBefore : List ℕ → ℕ → Type 0
+NotBefore a k = whichName a ≡ k + placeIn a (drop k names)
+
+pub which-start : (a : List ℕ) → NotBefore a 0
+unfolding whichName
+which-start a = sym (zero-add _)
+
+module _ (a : List ℕ) (k v w : ℕ) (s : NotBefore a k) (b : Bytes a) (e : v ≡ wordOf a) (f : w ≡ getD nameWords k 0) (h : k < 12) where
+  place : (t : Bool) → eqb v w ≡ t → placeIn a (drop k names) ≡ cond t 0 (suc (placeIn a (drop (suc k) names)))
+  unfolding names
+  place t c = rw (drop-cons names k [] h, word-same a k h b, ← e, ← f, c) refl
+
+  pub which-here : v ≡ w → k ≡ whichName a
+  which-here c = let z = place true (eq-eqb v w c) in omega arith
+
+  pub which-more : (v ≡ w → ⊥) → NotBefore a (k + 1)
+  which-more c = let z = place false (ne-eqb v w c) in rw add-one (omega arith)
+
+pub which-end : (a : List ℕ) (k : ℕ) → NotBefore a k → k ≡ 12 → 12 ≡ whichName a
+unfolding names
+which-end a k s e = let z : placeIn a (drop k names) ≡ 0 = rw e refl in omega arith

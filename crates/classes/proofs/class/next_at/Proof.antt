@@ -1,0 +1,62 @@
+-- `classes::class::next_at` meets its contract: what is known of later `[:` answers, or `next_member` does on what follows.
+use mathlib.Core.Path.{sym, ap, _∙_}
+use native.Mathlib.Nat.{le-refl}
+use borrow.Author.Tests.{eqb-true}
+use borrow.Author.Needs.{needs}
+use Rattle.classes.specs.Members.{nextMember}
+use Rattle.classes.proofs.MemberLaws.{from-drop}
+use Rattle.classes.proofs.class.next_at.Statement.{statement}
+use Rattle.classes.proofs.class.next_at.Tie as tie
+
+add-if1 : tie.Need-add-if1
+add-if1 c = search needs
+
+shared-slice-read-if2 : tie.Need-shared-slice-read-if2
+shared-slice-read-if2 c = search needs
+
+add-if3 : tie.Need-add-if3
+add-if3 c = search needs
+
+shared-slice-read-if3 : tie.Need-shared-slice-read-if3
+shared-slice-read-if3 c = search needs
+
+sub-t13 : tie.Need-sub-t13
+sub-t13 c = search needs
+
+sub-t14 : tie.Need-sub-t14
+sub-t14 c = search needs
+
+returns : tie.Need-returns
+returns c = sym (c .before .before .before .before .before .before .pre .1 .later _ (le-refl _) (c .before .before .before .before .if1 .taken) (eqb-true _ _ (c .before .before .if2 .taken)) (eqb-true _ _ (c .if3 .taken)))
+
+sub-next-member : tie.Need-sub-next-member
+sub-next-member c = search needs
+
+part-next-member-start : tie.Need-part-next-member-start
+part-next-member-start c = search needs
+
+part-next-member-end : tie.Need-part-next-member-end
+part-next-member-end c = search needs
+
+next-member-requires : tie.Need-next-member-requires
+next-member-requires c κs = search needs
+
+returns-2 : tie.Need-returns-2
+returns-2 c = c .next-member .ensures ∙ ap (nextMember _) (from-drop (c .before .before .before .before .args .i) (c .before .before .before .before .args .q .now))
+
+pub next-at-spec : {M : Type 1} → statement M
+next-at-spec =
+    tie.close
+    (tie.spec
+    add-if1
+    shared-slice-read-if2
+    add-if3
+    shared-slice-read-if3
+    sub-t13
+    sub-t14
+    returns
+    sub-next-member
+    part-next-member-start
+    part-next-member-end
+    next-member-requires
+    returns-2)

@@ -1,0 +1,20 @@
+-- `classes::letters::to_lower` meets its contract: each way out settles the two tests of `lower`.
+use borrow.Author.Needs.{needs}
+use borrow.Author.Tests.{le-leb, lt-leb}
+use Rattle.classes.proofs.letters.to_lower.Statement.{statement}
+use Rattle.classes.proofs.letters.to_lower.Tie as tie
+
+returns : tie.Need-returns
+returns c = rw (lt-leb 65 _ (c .if1 .taken))
+
+returns-2 : tie.Need-returns-2
+returns-2 c = rw (le-leb 65 _ (c .before .if1 .left), lt-leb _ 90 (c .if2 .taken))
+
+add-result : tie.Need-add-result
+add-result c = search needs
+
+returns-3 : tie.Need-returns-3
+returns-3 c = rw (le-leb 65 _ (c .before .if1 .left), le-leb _ 90 (c .if2 .left))
+
+pub to-lower-spec : {M : Type 1} → statement M
+to-lower-spec = tie.close (tie.spec returns returns-2 add-result returns-3)

@@ -1,0 +1,106 @@
+-- `classes::members::next_member` meets its contract: each way out settles the tests of `nextMember`.
+use mathlib.Core.Logic.{⊎-elim}
+use lib.ListN.{getD}
+use borrow.Author.Tests.{not-true}
+use borrow.Author.Needs.{needs}
+use Rattle.classes.proofs.MemberLaws.{NotClose, first-goes-on, other-goes-on, next-end, next-close, next-open, next-escaped, next-bracket, next-single}
+use Rattle.classes.proofs.members.next_member.Statement.{statement}
+use Rattle.classes.proofs.members.next_member.Tie as tie
+
+-- past the test for `]`, by both of its ways
+goes-on : (c : tie.Joined2) → NotClose (c .before .before .before .before .args .first) (getD (c .before .before .before .before .args .q .now) 0 0)
+goes-on c = ⊎-elim (λ w. first-goes-on _ _ (w .1 .left)) (λ w. other-goes-on _ _ (w .left)) (c .if2 .came)
+
+returns : tie.Need-returns
+returns c = next-end _ _ (c .if1 .taken)
+
+shared-slice-read-x : tie.Need-shared-slice-read-x
+shared-slice-read-x c = search needs
+
+returns-2 : tie.Need-returns-2
+returns-2 c =
+    next-close _ _ (c .before .before .before .if1 .left) (c .before .if2 .taken) (not-true _ (c .if3 .taken))
+
+returns-3 : tie.Need-returns-3
+returns-3 c =
+    next-open _ _ (c .before .before .before .before .if1 .left) (goes-on (c .before .before)) (c .before .if4 .taken) (c .if5 .taken)
+
+shared-slice-read-read-single : tie.Need-shared-slice-read-read-single
+shared-slice-read-read-single c = search needs
+
+sub-read-single : tie.Need-sub-read-single
+sub-read-single c = search needs
+
+part-read-single-start : tie.Need-part-read-single-start
+part-read-single-start c = search needs
+
+part-read-single-end : tie.Need-part-read-single-end
+part-read-single-end c = search needs
+
+read-single-requires : tie.Need-read-single-requires
+read-single-requires c κs = search needs
+
+returns-4 : tie.Need-returns-4
+returns-4 c =
+    next-escaped _ _ _ (goes-on (c .before .before .before .before .before)) (c .before .before .before .before .if4 .taken) (c .before .before .before .if5 .left) (c .read-single .ensures)
+
+sub-read-bracket : tie.Need-sub-read-bracket
+sub-read-bracket c = search needs
+
+part-read-bracket-start : tie.Need-part-read-bracket-start
+part-read-bracket-start c = search needs
+
+part-read-bracket-end : tie.Need-part-read-bracket-end
+part-read-bracket-end c = search needs
+
+read-bracket-requires : tie.Need-read-bracket-requires
+read-bracket-requires c κs = search needs
+
+returns-5 : tie.Need-returns-5
+returns-5 c =
+    next-bracket _ _ _ (c .before .before .before .before .before .before .if1 .left) (goes-on (c .before .before .before .before)) (c .before .before .before .if4 .left)
+    (c .before .before .if6 .taken)
+    (c .read-bracket .ensures)
+
+sub-read-single-2 : tie.Need-sub-read-single-2
+sub-read-single-2 c = search needs
+
+part-read-single-start-2 : tie.Need-part-read-single-start-2
+part-read-single-start-2 c = search needs
+
+part-read-single-end-2 : tie.Need-part-read-single-end-2
+part-read-single-end-2 c = search needs
+
+read-single-requires-2 : tie.Need-read-single-requires-2
+read-single-requires-2 c κs = search needs
+
+returns-6 : tie.Need-returns-6
+returns-6 c =
+    next-single _ _ _ (c .before .before .before .before .before .before .if1 .left) (goes-on (c .before .before .before .before)) (c .before .before .before .if4 .left)
+    (c .before .before .if6 .left)
+    (c .read-single2 .ensures)
+
+pub next-member-spec : {M : Type 1} → statement M
+next-member-spec =
+    tie.close
+    (tie.spec
+    returns
+    shared-slice-read-x
+    returns-2
+    returns-3
+    shared-slice-read-read-single
+    sub-read-single
+    part-read-single-start
+    part-read-single-end
+    read-single-requires
+    returns-4
+    sub-read-bracket
+    part-read-bracket-start
+    part-read-bracket-end
+    read-bracket-requires
+    returns-5
+    sub-read-single-2
+    part-read-single-start-2
+    part-read-single-end-2
+    read-single-requires-2
+    returns-6)

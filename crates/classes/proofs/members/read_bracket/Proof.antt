@@ -1,0 +1,48 @@
+-- `classes::members::read_bracket` meets its contract: each way out settles the tests of `bracketAt`.
+use borrow.Author.Needs.{needs}
+use Rattle.classes.proofs.MemberLaws.{bracket-end, bracket-name, bracket-single}
+use Rattle.classes.proofs.members.read_bracket.Statement.{statement}
+use Rattle.classes.proofs.members.read_bracket.Tie as tie
+
+returns : tie.Need-returns
+returns c = bracket-end _ (c .if1 .taken)
+
+shared-slice-read-if2 : tie.Need-shared-slice-read-if2
+shared-slice-read-if2 c = search needs
+
+sub-read-name : tie.Need-sub-read-name
+sub-read-name c = search needs
+
+part-read-name-start : tie.Need-part-read-name-start
+part-read-name-start c = search needs
+
+part-read-name-end : tie.Need-part-read-name-end
+part-read-name-end c = search needs
+
+read-name-requires : tie.Need-read-name-requires
+read-name-requires c κs = search needs
+
+returns-2 : tie.Need-returns-2
+returns-2 c =
+    bracket-name _ _ (c .before .before .before .before .if1 .left) (c .before .before .if2 .taken) (c .read-name .ensures)
+
+read-single-requires : tie.Need-read-single-requires
+read-single-requires c κs = search needs
+
+returns-3 : tie.Need-returns-3
+returns-3 c =
+    bracket-single _ _ (c .before .before .before .if1 .left) (c .before .if2 .left) (c .read-single .ensures)
+
+pub read-bracket-spec : {M : Type 1} → statement M
+read-bracket-spec =
+    tie.close
+    (tie.spec
+    returns
+    shared-slice-read-if2
+    sub-read-name
+    part-read-name-start
+    part-read-name-end
+    read-name-requires
+    returns-2
+    read-single-requires
+    returns-3)

@@ -1,0 +1,163 @@
+-- Document 01, "Patterns": "`[`, then perhaps `!` or `^` for "not", then members up to `]`".
+use Prim.Native.Nat.{ℕ, zero, suc, pred, _+_, _-_, _≤_}
+use mathlib.Core.Path.{_≡_}
+use mathlib.Core.Bool.{Bool, true, false, cond, not, _&&_, _||_}
+use mathlib.Core.List.{List, [], _∷_}
+use mathlib.Core.Option.{Option, none, some}
+use lib.Dec.{eqb, leb, ltb}
+use lib.ListN.{length, getD, take, drop}
+use Rattle.classes.specs.Letters.{folded}
+use Rattle.classes.specs.Names.{named, whichName}
+use Rattle.classes.specs.declared.members.Next.{Next}
+use Rattle.classes.specs.declared.members.Next.the-variants.{Close, Broken, Byte, Range, Name, Plain}
+use Rattle.classes.specs.declared.class.Tested.{Tested}
+use Rattle.classes.specs.declared.class.Tested.the-variants.{Bad, Read}
+
+-- What each member lists.
+
+-- "Members: a byte; `\x`; a range ..; one of the twelve names": a byte, escaped or not, a range's two ends, or a name's place among the twelve
+pub data Member : Type 0 where
+  byte : ℕ → Member
+  range : ℕ → ℕ → Member
+  name : ℕ → Member
+
+-- a member lists the byte x. "A range written high to low still lists its first byte."
+unfoldable pub lists : Member → ℕ → Bool
+lists (byte b) x = eqb x b
+lists (range a b) x = eqb x a || leb a x && leb x b
+lists (name k) x = named k x
+
+-- one of the members lists the byte x
+abbrev pub anyLists : List Member → ℕ → Bool
+anyLists [] x = false
+anyLists (m ∷ ms) x = lists m x || anyLists ms x
+
+-- the class accepts the byte x: case is folded in "the list in a class before "not""
+unfoldable pub accepted : Bool → Bool → List Member → ℕ → Bool
+accepted fold false ms x = folded fold (anyLists ms) x
+accepted fold true ms x = not (folded fold (anyLists ms) x)
+
+-- How the members are read, from the left. `Byte b n`, `Range a b n`, `Name k n`: the member is written with n bytes.
+-- `Plain n`: a `[` that "is a plain member" though `[:` stands there, with n bytes between that and the next `]`.
+
+-- "any `\x`, `\]` too" as the end of a range: after b of n bytes, `-` and `\`
+abbrev pub escapedEnd : ℕ → ℕ → List ℕ → Next
+escapedEnd b n [] = Broken
+escapedEnd b n (y ∷ q) = Range b y (n + 3)
+
+-- after b of n bytes and `-`: "a next byte other than `]` (a `[` too)" ends a range
+abbrev pub rangeEnd : ℕ → ℕ → List ℕ → Next
+rangeEnd b n [] = Byte b n
+rangeEnd b n (y ∷ q) =
+    cond (eqb y 93) (Byte b n)
+    (cond (eqb y 92) (escapedEnd b n q)
+    (Range b y (n + 2)))
+
+-- the single member b of n bytes, or the range that it begins: "a range with `-` between a single member and a next byte".
+-- "After a range or a name, `-` is plain": only here is a `-` looked for
+unfoldable pub single : ℕ → ℕ → List ℕ → Next
+single b n [] = Byte b n
+single b n (y ∷ q) = cond (eqb y 45) (rangeEnd b n q) (Byte b n)
+
+-- "`\x`": after `\`
+abbrev pub escapedMember : List ℕ → Next
+escapedMember [] = Broken
+escapedMember (y ∷ q) = single y 2 q
+
+-- how many bytes stand before "the next `]`"
+unfoldable pub untilClose : List ℕ → ℕ
+untilClose [] = 0
+untilClose (y ∷ q) = cond (eqb y 93) 0 (suc (untilClose q))
+
+-- "nothing stands between, or the byte before the `]` isn't `:`": after `[:`
+abbrev pub noName : List ℕ → Bool
+noName q = eqb (untilClose q) 0 || not (eqb (getD q (untilClose q - 1) 0) 58)
+
+-- the bytes between `[:` and `:]`
+abbrev pub nameOf : List ℕ → List ℕ
+nameOf q = take (untilClose q - 1) q
+
+-- "After `[:` look for the next `]`: none, the pattern is broken; .. the inner `[` is a plain member and reading goes on at the `:`;
+-- a name outside the twelve, the empty name too, is broken"
+unfoldable pub nameAt : List ℕ → Next
+nameAt q =
+    cond (leb (length q) (untilClose q)) Broken
+    (cond (noName q) (Plain (untilClose q))
+    (cond (ltb (whichName (nameOf q)) 12) (Name (whichName (nameOf q)) (untilClose q + 3))
+    Broken))
+
+-- after `[` among the members
+unfoldable pub bracketAt : List ℕ → Next
+bracketAt [] = Byte 91 1
+bracketAt (y ∷ q) = cond (eqb y 58) (nameAt q) (single 91 1 (y ∷ q))
+
+-- the next member, or the closing `]`: "a `]` as first member is a member". "No closing `]` is broken."
+unfoldable pub nextMember : Bool → List ℕ → Next
+nextMember first [] = Broken
+nextMember first (x ∷ q) =
+    cond (eqb x 93 && not first) Close
+    (cond (eqb x 92) (escapedMember q)
+    (cond (eqb x 91) (bracketAt q)
+    (single x 1 q)))
+
+-- the members of a class, and how many bytes they are written with up to the closing `]`, which counts
+pub record Members : Type 0 where
+  pub list : List Member
+  pub size : ℕ
+
+abbrev pub longer : Option Members → Option Members
+longer none = none
+longer (some r) = some (record { list = r .list; size = suc (r .size) })
+
+abbrev pub andMember : Member → Option Members → Option Members
+andMember m none = none
+andMember m (some r) = some (record { list = m ∷ r .list; size = suc (r .size) })
+
+-- after the member that was read; of "a plain member" `[` before a `:`, "reading goes on at the `:`"
+abbrev pub membersAfter : Next → (ℕ → Option Members) → Option Members
+membersAfter Close rest = some (record { list = []; size = 1 })
+membersAfter Broken rest = none
+membersAfter (Byte b n) rest = andMember (byte b) (rest (pred n))
+membersAfter (Range a b n) rest = andMember (range a b) (rest (pred n))
+membersAfter (Name k n) rest = andMember (name k) (rest (pred n))
+membersAfter (Plain n) rest = andMember (byte 91) (rest 0)
+
+-- "members up to `]`", after the first k bytes, which belong to a member that was read; none: broken. `first`: no member was read yet
+unfoldable pub members : List ℕ → ℕ → Bool → Option Members
+members [] k first = none
+members (x ∷ q) zero first = membersAfter (nextMember first (x ∷ q)) (λ n. members q n false)
+members (x ∷ q) (suc k) first = longer (members q k first)
+
+-- a class after its `[`: whether it has "perhaps `!` or `^` for "not"", its members, and how many bytes it is written with up to its `]`
+pub record Class : Type 0 where
+  pub negated : Bool
+  pub list : List Member
+  pub size : ℕ
+
+abbrev pub classOf : Bool → ℕ → Option Members → Option Class
+classOf neg n none = none
+classOf neg n (some r) = some (record { negated = neg; list = r .list; size = n + r .size })
+
+abbrev pub notSign : List ℕ → Bool
+notSign [] = false
+notSign (x ∷ q) = eqb x 33 || eqb x 94
+
+-- none: broken
+unfoldable pub readClass : List ℕ → Option Class
+readClass q = cond (notSign q) (classOf true 1 (members (drop 1 q) 0 true)) (classOf false 0 (members q 0 true))
+
+-- what the test of a byte answers: broken, or whether the class accepts it, with the class's size
+unfoldable pub tested : Bool → ℕ → Option Class → Tested
+tested fold x none = Bad
+tested fold x (some c) = Read (accepted fold (c .negated) (c .list) x) (c .size)
+
+-- what the code finds on the way: whether a member lists x or y
+unfoldable pub scanned : ℕ → ℕ → Option Members → Tested
+scanned x y none = Bad
+scanned x y (some r) = Read (anyLists (r .list) x || anyLists (r .list) y) (r .size)
+
+-- what the code knows on the way: from the i-th byte on, "the next `]`" after each `[:` that stands before the place p is that at p,
+-- and "the inner `[` is a plain member"
+pub record PlainTo (q : List ℕ) (i p : ℕ) : Type 0 where
+  pub within : p ≤ length q
+  pub later : (j : ℕ) → i ≤ j → j + 2 ≤ p → getD q j 0 ≡ 91 → getD q (j + 1) 0 ≡ 58 → nextMember (eqb j 0) (drop j q) ≡ Plain (p - j - 2)

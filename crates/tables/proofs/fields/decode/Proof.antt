@@ -1,0 +1,89 @@
+-- Both places stay within their bytes, and `out` keeps its length.
+use mathlib.Core.Path.{_≡_}
+use lib.ListN.{length, length-set}
+use Prim.Native.Nat.{_≤_, _-_}
+use native.Mathlib.Omega.{arith}
+use borrow.Author.Needs.{needs}
+use Rattle.tables.proofs.fields.decode.Statement.{statement}
+use Rattle.tables.proofs.fields.decode.Tie as tie
+
+abbrev Inv-loop : tie.InvT-loop
+Inv-loop field out₀ i₀ n₀ out i n = (i ≤ length field) × (n ≤ length out) × (length out ≡ length out₀)
+
+abbrev μ-loop : tie.MeasureT-loop
+μ-loop field out₀ i₀ n₀ out i n = length field - i
+
+loop-holds : tie.Need-loop-holds Inv-loop μ-loop
+loop-holds c = search needs
+
+written-len-requires : tie.Need-written-len-requires Inv-loop μ-loop
+written-len-requires c κs = search needs
+
+same-length : tie.Need-same-length Inv-loop μ-loop
+same-length c = search needs
+
+returns : tie.Need-returns Inv-loop μ-loop
+returns c = search needs
+
+written-requires : tie.Need-written-requires Inv-loop μ-loop
+written-requires c κs = search needs
+
+same-length-2 : tie.Need-same-length-2 Inv-loop μ-loop
+same-length-2 c = search needs
+
+returns-2 : tie.Need-returns-2 Inv-loop μ-loop
+returns-2 c = search needs
+
+same-length-3 : tie.Need-same-length-3 Inv-loop μ-loop
+same-length-3 c = search needs
+
+returns-3 : tie.Need-returns-3 Inv-loop μ-loop
+returns-3 c = search needs
+
+cast-out : tie.Need-cast-out Inv-loop μ-loop
+cast-out c = search needs
+
+slice-write-out : tie.Need-slice-write-out Inv-loop μ-loop
+slice-write-out c = search needs
+
+add-n : tie.Need-add-n Inv-loop μ-loop
+add-n c = search needs
+
+add-i : tie.Need-add-i Inv-loop μ-loop
+add-i c = search needs
+
+loop-less : tie.Need-loop-less Inv-loop μ-loop
+loop-less c = search needs
+
+loop-again : tie.Need-loop-again Inv-loop μ-loop
+loop-again c = (omega arith, simp length-set (omega arith), simp length-set (omega arith))
+
+same-length-4 : tie.Need-same-length-4 Inv-loop μ-loop
+same-length-4 c = search needs
+
+returns-4 : tie.Need-returns-4 Inv-loop μ-loop
+returns-4 c = search needs
+
+pub decode-spec : {M : Type 1} → statement M
+decode-spec =
+    tie.close
+    (tie.spec
+    Inv-loop
+    μ-loop
+    loop-holds
+    written-len-requires
+    same-length
+    returns
+    written-requires
+    same-length-2
+    returns-2
+    same-length-3
+    returns-3
+    cast-out
+    slice-write-out
+    add-n
+    add-i
+    loop-less
+    loop-again
+    same-length-4
+    returns-4)

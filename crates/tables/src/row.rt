@@ -1,0 +1,111 @@
+// One row: its pattern and text put to the matcher in each mode.
+ghost use mathlib.Core.Path.{_≡_};
+ghost use lib.ListN.{length};
+use crate::fields;
+use crate::report;
+
+// What a row came to.
+pub enum Outcome {
+    // It has not four fields that can be read.
+    Malformed,
+    // It was run, and so many of its four answers differ.
+    Differing(u64),
+}
+
+// The flags numbers of the modes, in the order of the expected answers.
+const FLAGS: [u64; 4] = [1, 3, 0, 2];
+
+fn is_digit(b: u8) -> bool {
+    b == b'0' || b == b'1'
+}
+
+// Whether four bytes are each 0 or 1.
+fn are_digits(field: &[u8]) -> bool
+    requires { ⌜ length (now field) ≡ 4 ⌝ }
+{
+    is_digit(field[0]) && is_digit(field[1]) && is_digit(field[2]) && is_digit(field[3])
+}
+
+fn value(digit: u8) -> u64 {
+    if digit == b'1' { 1 } else { 0 }
+}
+
+fn answer(pattern: &[u8], text: &[u8], flags: u64) -> u64 {
+    wildmatch::answer::code_of(wildmatch::answer::wildmatch(pattern, text, flags)) as u64
+}
+
+// Whether the matcher answers other than expected in one mode; says so if it does.
+fn differs(label: &[u8], pattern: &[u8], text: &[u8], flags: u64, expected: u64) -> bool {
+    let got = answer(pattern, text, flags);
+    if got == expected {
+        return false;
+    }
+    report::difference(label, flags, expected, got);
+    true
+}
+
+// How many of the four answers differ.
+fn count_differing(label: &[u8], pattern: &[u8], text: &[u8], expected: &[u8]) -> u64
+    requires { ⌜ length (now expected) ≡ 4 ⌝ }
+{
+    let mut n: u64 = 0;
+    let mut i = 0;
+    while i < 4 {
+        if differs(label, pattern, text, FLAGS[i], value(expected[i])) {
+            n += 1;
+        }
+        i += 1;
+    }
+    n
+}
+
+// Runs a row on the first `p` and `t` bytes of the two buffers, which its pattern and its text wrote.
+fn run_decoded(
+    label: &[u8],
+    pattern: &[u8],
+    p: usize,
+    text: &[u8],
+    t: usize,
+    expected: &[u8],
+) -> Outcome
+    requires { ⌜ length (now expected) ≡ 4 ⌝ }
+{
+    if p > pattern.len() {
+        return Outcome::Malformed;
+    }
+    if t > text.len() {
+        return Outcome::Malformed;
+    }
+    Outcome::Differing(count_differing(label, &pattern[0..p], &text[0..t], expected))
+}
+
+fn run_fields(label: &[u8], pattern: &[u8], text: &[u8], expected: &[u8]) -> Outcome {
+    if expected.len() != 4 {
+        return Outcome::Malformed;
+    }
+    if !are_digits(expected) {
+        return Outcome::Malformed;
+    }
+    let mut pattern_bytes = io::buffer();
+    let mut text_bytes = io::buffer();
+    let p = fields::decode(pattern, &mut pattern_bytes);
+    let t = fields::decode(text, &mut text_bytes);
+    run_decoded(label, &pattern_bytes, p, &text_bytes, t, expected)
+}
+
+// Takes a row apart at its first three tabs and runs it.
+pub fn run_row(row: &[u8]) -> Outcome {
+    let a = fields::find(row, 0, b'\t');
+    if a == row.len() {
+        return Outcome::Malformed;
+    }
+    let b = fields::find(row, a + 1, b'\t');
+    if b == row.len() {
+        return Outcome::Malformed;
+    }
+    let c = fields::find(row, b + 1, b'\t');
+    if c == row.len() {
+        return Outcome::Malformed;
+    }
+    run_fields(&row[0..a], &row[a + 1..b], &row[b + 1..c], &row[c + 1..])
+}

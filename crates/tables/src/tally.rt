@@ -1,0 +1,124 @@
+// The rows of a file, and what they came to.
+use crate::fields;
+use crate::report;
+use crate::row;
+use crate::row::Outcome;
+
+pub struct Tally {
+    pub rows: u64,
+    pub answers: u64,
+    pub differ: u64,
+    pub malformed: u64,
+    // The rows of the present section, and those of them whose four answers are as expected.
+    pub section_rows: u64,
+    pub section_passed: u64,
+}
+
+pub fn nothing() -> Tally {
+    Tally {
+        rows: 0,
+        answers: 0,
+        differ: 0,
+        malformed: 0,
+        section_rows: 0,
+        section_passed: 0,
+    }
+}
+
+// The sum, or the largest number where the sum would not fit. The rows of two files come nowhere near it.
+fn plus(a: u64, b: u64) -> u64 {
+    if b > u64::MAX - a {
+        return u64::MAX;
+    }
+    a + b
+}
+
+fn with_malformed(t: Tally) -> Tally {
+    Tally {
+        rows: plus(t.rows, 1),
+        answers: t.answers,
+        differ: t.differ,
+        malformed: plus(t.malformed, 1),
+        section_rows: plus(t.section_rows, 1),
+        section_passed: t.section_passed,
+    }
+}
+
+fn with_answers(t: Tally, differing: u64) -> Tally {
+    let passed = if differing == 0 { 1 } else { 0 };
+    Tally {
+        rows: plus(t.rows, 1),
+        answers: plus(t.answers, 4),
+        differ: plus(t.differ, differing),
+        malformed: t.malformed,
+        section_rows: plus(t.section_rows, 1),
+        section_passed: plus(t.section_passed, passed),
+    }
+}
+
+// Writes the line of the section that `row` belongs to, if any row was counted, and starts another.
+fn end_section(row: &[u8], t: Tally) -> Tally {
+    if t.section_rows == 0 {
+        return t;
+    }
+    let n = fields::section_len(row);
+    report::section(&row[0..n], t.section_passed, t.section_rows);
+    Tally {
+        rows: t.rows,
+        answers: t.answers,
+        differ: t.differ,
+        malformed: t.malformed,
+        section_rows: 0,
+        section_passed: 0,
+    }
+}
+
+fn same_section(a: &[u8], b: &[u8]) -> bool {
+    let n = fields::section_len(a);
+    let m = fields::section_len(b);
+    check::same(&a[0..n], &b[0..m])
+}
+
+// Runs a row and counts it.
+fn count_row(row: &[u8], t: Tally) -> Tally {
+    let outcome = row::run_row(row);
+    match outcome {
+        Outcome::Malformed => {
+            report::malformed(row);
+            with_malformed(t)
+        }
+        Outcome::Differing(n) => with_answers(t, n),
+    }
+}
+
+// Counts a row; `last` begins with the row before it, whose section ends where this one's is another.
+fn next_row(last: &[u8], row: &[u8], t: Tally) -> Tally {
+    if same_section(last, row) {
+        return count_row(row, t);
+    }
+    count_row(row, end_section(last, t))
+}
+
+// Whether a line is a row: neither empty nor a comment.
+fn is_row(line: &[u8]) -> bool {
+    if line.len() == 0 {
+        return false;
+    }
+    line[0] != b'#'
+}
+
+// Runs the rows of a file, one a line.
+pub fn run_rows(s: &[u8], before: Tally) -> Tally {
+    let mut t = before;
+    let mut last = 0;
+    let mut i = 0;
+    while i < s.len() {
+        let end = fields::find(s, i, b'\n');
+        if is_row(&s[i..end]) {
+            t = next_row(&s[last..i], &s[i..end], t);
+            last = i;
+        }
+        i = end + 1;
+    }
+    end_section(&s[last..], t)
+}

@@ -1,0 +1,49 @@
+-- Each answer of the matcher means what specs/Answers.antt says.
+use mathlib.Core.Path.{_≡_, refl, sym, ap, subst, _∙_}
+use mathlib.Core.Logic.{_⊎_, inl, inr, ⊎-elim, _↔_}
+use mathlib.Core.Bool.{Bool, true, false, false≢true}
+use mathlib.Core.List.{List}
+use Prim.Native.Nat.{ℕ}
+use native.Mathlib.Omega.{arith}
+use Rattle.refusals.specs.Refusals.{Lowest, Accepted, MatcherRefuses}
+use Rattle.refusals.proofs.LowestLaws.{lowest-one, lowest-refuses}
+use Rattle.wildmatch.specs.Sharing.{Matches}
+use Rattle.wildmatch.specs.Test.{matchesTest}
+use Rattle.wildmatch.specs.Meaning.{test-decides}
+use Rattle.wildmatch.specs.Answers.{modeOf, Answered}
+use Rattle.wildmatch.specs.declared.Mode.{Mode}
+use Rattle.wildmatch.specs.declared.answer.Answer.{Answer}
+use Rattle.wildmatch.specs.declared.answer.Answer.the-variants.{Unmatched, Matched, Refused}
+
+clash : {A : Type 0} → _≡_ {A = ℕ} 0 1 → A
+clash e = absurd (omega arith)
+
+-- a test is false exactly where what it decides does not hold
+pub test-false : {P : Type 0} (b : Bool) → (b ≡ true) ↔ P → b ≡ false → P → ⊥
+test-false b d e h = false≢true (sym e ∙ d .1 h)
+
+module _ (p t : List ℕ) (f : ℕ) where
+  pub answers-refused : (n : ℕ) → Lowest (MatcherRefuses p t f) n → Answered p t f (Refused n)
+  answers-refused n l = record {
+    refused = λ k. (λ e. let q : n ≡ k = cc in subst (Lowest (MatcherRefuses p t f)) q l, λ h. ap Refused (lowest-one (MatcherRefuses p t f) n k l h));
+    matched = (λ e. clash (cc), λ h. absurd (lowest-refuses (MatcherRefuses p t f) n l (h .0)));
+    unmatched = (λ e. clash (cc), λ h. absurd (lowest-refuses (MatcherRefuses p t f) n l (h .0)));
+  }
+
+  pub answers-matched : (m : Mode) (b : Bool) → Accepted (MatcherRefuses p t f) → m ≡ modeOf f → b ≡ matchesTest m p t → b ≡ true → Answered p t f Matched
+  answers-matched m b a e q h =
+      let w : Matches (modeOf f) p t = subst (λ (k : Mode). Matches k p t) e (test-decides m p t .0 (sym q ∙ h)) in
+      record {
+        refused = λ k. (λ e. clash (cc), λ h. absurd (lowest-refuses (MatcherRefuses p t f) k h a));
+        matched = (λ e. (a, w), λ h. refl);
+        unmatched = (λ e. clash (cc), λ h. absurd (h .1 w));
+      }
+
+  pub answers-unmatched : (m : Mode) (b : Bool) → Accepted (MatcherRefuses p t f) → m ≡ modeOf f → b ≡ matchesTest m p t → b ≡ false → Answered p t f Unmatched
+  answers-unmatched m b a e q h =
+      let w : Matches (modeOf f) p t → ⊥ = λ k. test-false (matchesTest m p t) (test-decides m p t) (sym q ∙ h) (subst (λ (o : Mode). Matches o p t) (sym e) k) in
+      record {
+        refused = λ k. (λ e. clash (cc), λ h. absurd (lowest-refuses (MatcherRefuses p t f) k h a));
+        matched = (λ e. clash (cc), λ h. absurd (w (h .1)));
+        unmatched = (λ e. (a, w), λ h. refl);
+      }

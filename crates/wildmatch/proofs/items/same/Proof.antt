@@ -1,0 +1,24 @@
+-- `wildmatch::items::same` meets its contract: folding asks with the lower, then the upper form.
+use Rattle.wildmatch.proofs.ItemLaws.{same-folded, same-upper, same-plain}
+use Rattle.classes.specs.Letters.{folded}
+use borrow.Author.Needs.{needs}
+use Rattle.wildmatch.proofs.items.same.Statement.{statement}
+use Rattle.wildmatch.proofs.items.same.Tie as tie
+
+to-lower-requires : tie.Need-to-lower-requires
+to-lower-requires c κs = search needs
+
+to-upper-requires : tie.Need-to-upper-requires
+to-upper-requires c κs = search needs
+
+returns : tie.Need-returns
+returns c = same-folded _ _ _ _ (c .before .before .if1 .taken) (c .before .to-lower .ensures) (c .if2 .taken)
+
+returns-2 : tie.Need-returns-2
+returns-2 c = same-upper _ _ _ _ _ (c .before .before .before .if1 .taken) (c .before .before .to-lower .ensures) (c .before .if2 .left) (c .to-upper .ensures)
+
+returns-3 : tie.Need-returns-3
+returns-3 c = same-plain _ _ _ (c .if1 .left)
+
+pub same-spec : {M : Type 1} → statement M
+same-spec = tie.close (tie.spec to-lower-requires to-upper-requires returns returns-2 returns-3)

@@ -1,0 +1,33 @@
+-- What the matcher answers, refusals included, and document 01's number for each answer.
+use Prim.Native.Nat.{ℕ, _+_}
+use mathlib.Core.Path.{_≡_}
+use mathlib.Core.Logic.{_↔_}
+use mathlib.Core.Bool.{Bool, _||_}
+use mathlib.Core.List.{List}
+use lib.Dec.{eqb}
+use Rattle.refusals.specs.Refusals.{Lowest, Accepted, MatcherRefuses}
+use Rattle.wildmatch.specs.Sharing.{Matches}
+use Rattle.wildmatch.specs.declared.Mode.{Mode}
+use Rattle.wildmatch.specs.declared.answer.Answer.{Answer}
+use Rattle.wildmatch.specs.declared.answer.Answer.the-variants.{Unmatched, Matched, Refused}
+
+-- of two flags in "one number", 1 and 2, this one is set: alone, or with the other
+unfoldable pub hasFlag : ℕ → ℕ → Bool
+hasFlag flags flag = eqb flags flag || eqb flags 3
+
+-- "Flags are one number: for the matcher 1 = path mode, 2 = fold case"
+unfoldable pub modeOf : ℕ → Mode
+modeOf flags = record { path = hasFlag flags 1; fold = hasFlag flags 2 }
+
+-- "Each refusal in the table is given exactly when its condition holds, lowest number first, and returns that number only"; otherwise
+-- "it matches exactly when the text is the joining, in order, of what its items may take"
+pub record Answered (pattern text : List ℕ) (flags : ℕ) (answer : Answer) : Type 0 where
+  pub refused : (n : ℕ) → (answer ≡ Refused n) ↔ Lowest (MatcherRefuses pattern text flags) n
+  pub matched : (answer ≡ Matched) ↔ (Accepted (MatcherRefuses pattern text flags) × Matches (modeOf flags) pattern text)
+  pub unmatched : (answer ≡ Unmatched) ↔ (Accepted (MatcherRefuses pattern text flags) × (Matches (modeOf flags) pattern text → ⊥))
+
+-- "C results: matcher 0 or 1; .. a refusal is 16 plus its number"
+unfoldable pub codeOf : Answer → ℕ
+codeOf Unmatched = 0
+codeOf Matched = 1
+codeOf (Refused n) = 16 + n

@@ -1,0 +1,124 @@
+-- What the outcomes of the private matchers say. A matcher that fails also says where else it would fail, so that the run before it
+-- need not try there: this bounds the work.
+use Prim.Native.Nat.{ℕ, zero, suc, _+_, _-_, _<_, _≤_}
+use mathlib.Core.Path.{_≡_}
+use mathlib.Core.Logic.{_⊎_}
+use mathlib.Core.Bool.{Bool, true, false, cond, not, _&&_, _||_}
+use mathlib.Core.List.{List, [], _∷_}
+use lib.Dec.{eqb}
+use lib.ListN.{length, getD, drop}
+use Rattle.wildmatch.specs.Patterns.{First, broken, item, readItem}
+use Rattle.wildmatch.specs.Sharing.{inside, accepts}
+use Rattle.wildmatch.specs.Test.{oneThen, runThen, tailMatches}
+use Rattle.wildmatch.specs.declared.Mode.{Mode}
+use Rattle.wildmatch.specs.declared.matcher.Outcome.{Outcome}
+use Rattle.wildmatch.specs.declared.matcher.Outcome.the-variants.{Matched, Failed, FailedNear, FailedFar}
+use Rattle.wildmatch.specs.declared.way.Way.{Way}
+use Rattle.wildmatch.specs.declared.way.Way.the-variants.{Within, All, ToSlash}
+use Rattle.wildmatch.specs.declared.segment.Stop.{Stop}
+use Rattle.wildmatch.specs.declared.segment.Stop.the-variants.{Whole, Mismatch, TooShort, Run}
+
+-- the byte stands for itself as an item
+unfoldable pub isLiteral : ℕ → Bool
+isLiteral c = not (eqb c 42) && (not (eqb c 63) && (not (eqb c 91) && not (eqb c 92)))
+
+-- how many bytes the first item of a pattern is written with, where it is of one byte and accepts x; else 0
+unfoldable pub takenBy : Mode → ℕ → First → ℕ
+takenBy m x broken = 0
+takenBy m x (item it n) = cond (accepts m it x) n 0
+
+unfoldable pub taken : Mode → List ℕ → ℕ → ℕ
+taken m [] x = 0
+taken m (y ∷ p) x = takenBy m x (readItem false y p)
+
+-- whether the byte before place i of a pattern is `/`; `after` says it of place 0
+unfoldable pub afterAt : Bool → List ℕ → ℕ → Bool
+afterAt after p zero = after
+afterAt after p (suc i) = eqb (getD p i 0) 47
+
+-- Which places of a text something before it could reach: its start alone, a run within a component, one that ends after `/`, any run.
+pub data Skip : Type 0 where
+  nothing : Skip
+  near : Skip
+  to-slash : Skip
+  anything : Skip
+
+abbrev pub May : Mode → Skip → List ℕ → ℕ → Type 0
+May m nothing t k = k ≡ 0
+May m near t k = (j : ℕ) → j < k → inside m (getD t j 0) ≡ true
+May m to-slash t k = (k ≡ 0) ⊎ (getD t (k - 1) 0 ≡ 47)
+May m anything t k = Unit {0}
+
+-- f fails at every place that can be reached
+unfoldable pub Never : Mode → Skip → (List ℕ → Bool) → List ℕ → Type 0
+Never m s f t = (k : ℕ) → k ≤ length t → May m s t k → f (drop k t) ≡ false
+
+-- after a byte `/` the widest run that can stand before is one that ends there
+abbrev pub skipped : Bool → Outcome → Skip
+skipped after Matched = nothing
+skipped after Failed = nothing
+skipped after FailedNear = near
+skipped after FailedFar = cond after to-slash anything
+
+-- what an outcome says of f and a text
+unfoldable pub Says : Mode → Bool → (List ℕ → Bool) → List ℕ → Outcome → Type 0
+Says m after f t Matched = f t ≡ true
+Says m after f t Failed = Never m (skipped after Failed) f t
+Says m after f t FailedNear = Never m (skipped after FailedNear) f t
+Says m after f t FailedFar = Never m (skipped after FailedFar) f t
+
+-- a run never just fails
+unfoldable pub SaysRun : Mode → Bool → (List ℕ → Bool) → List ℕ → Outcome → Type 0
+SaysRun m after f t r = Says m after f t r × (r ≡ Failed → ⊥)
+
+-- a run within a component and then the pattern p
+unfoldable pub nearThen : Mode → List ℕ → List ℕ → Bool
+nearThen m p t = runThen (inside m) (tailMatches m false p) t
+
+-- what an outcome says of the pattern p from its front, and, where it slides, of a run within a component and then p
+unfoldable pub SaysItems : Mode → Bool → Bool → List ℕ → List ℕ → Outcome → Type 0
+SaysItems m after false p t r = Says m after (tailMatches m after p) t r
+SaysItems m after true p t r = SaysRun m false (nearThen m p) t r
+
+-- a run that ends after a `/`, or at once where `here`, and then the pattern p
+unfoldable pub slashThen : Mode → Bool → List ℕ → List ℕ → Bool
+slashThen m here p t = here && tailMatches m true p t || runThen (λ x. true) (oneThen (λ x. eqb x 47) (tailMatches m true p)) t
+
+-- what the loop over items of one byte says of the pattern p, whatever the byte before it
+unfoldable pub Stops : Mode → List ℕ → List ℕ → Stop → Type 0
+Stops m p t Whole = (after : Bool) → Says m after (tailMatches m after p) t Matched
+Stops m p t Mismatch = (after : Bool) → Says m after (tailMatches m after p) t Failed
+Stops m p t TooShort = (after : Bool) → Says m after (tailMatches m after p) t FailedFar
+Stops m p t (Run i j) =
+    (i < length p) × (j ≤ length t) × (getD p i 0 ≡ 42)
+    × ((after : Bool) (r : Outcome) → Says m (afterAt after p i) (tailMatches m (afterAt after p i) (drop i p)) (drop j t) r → Says m after (tailMatches m after p) t r)
+
+-- n is just after the next `/` of t from place k on, or past the end where there is none
+unfoldable pub NextSlash : List ℕ → ℕ → ℕ → Type 0
+NextSlash t k n =
+    (k < n) × (n ≤ length t + 1) × (n ≤ length t → getD t (n - 1) 0 ≡ 47)
+    × ((j : ℕ) → k < j → j < n → j ≤ length t → getD t (j - 1) 0 ≡ 47 → ⊥)
+
+-- k is the first place where a run that crosses to after a `/` may end: the start where `here`
+unfoldable pub FirstPlace : Bool → List ℕ → ℕ → Type 0
+FirstPlace true t k = k ≡ 0
+FirstPlace false t k = NextSlash t 0 k
+
+-- from place k to place n every byte is inside, and P holds of it
+unfoldable pub Passed : Mode → (ℕ → Type 0) → List ℕ → ℕ → ℕ → Type 0
+Passed m P t k n = (k ≤ n) × (n ≤ length t) × ((j : ℕ) → j < n → k ≤ j → (inside m (getD t j 0) ≡ true) × P j)
+
+-- a run within a component may go from place k to place n, and the pattern p matches at none of the places before n
+unfoldable pub Skipped : Mode → List ℕ → List ℕ → ℕ → ℕ → Type 0
+Skipped m p t k n = Passed m (λ j. tailMatches m false p (drop j t) ≡ false) t k n
+
+-- What the run at the front of a pattern leaves to be matched: within a component, the pattern after its n stars; nothing, where it takes
+-- all; after a `/`, or at once where `here`, the pattern after its stars and that slash, n bytes in all.
+unfoldable pub Leads : Mode → Bool → List ℕ → Way → Type 0
+Leads m after p (Within n) =
+    (1 ≤ n) × (n ≤ length p) × (afterAt after p n ≡ false)
+    × ((t : List ℕ) (r : Outcome) → SaysRun m false (nearThen m (drop n p)) t r → SaysRun m after (tailMatches m after p) t r)
+Leads m after p All = (t : List ℕ) → SaysRun m after (tailMatches m after p) t Matched
+Leads m after p (ToSlash n here) =
+    (1 ≤ n) × (n ≤ length p)
+    × ((t : List ℕ) (r : Outcome) → SaysRun m true (slashThen m here (drop n p)) t r → SaysRun m after (tailMatches m after p) t r)

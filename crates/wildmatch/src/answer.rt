@@ -1,0 +1,79 @@
+// The matcher as it is called from outside: refusals first, then the answer.
+ghost use mathlib.Core.Path.{_≡_};
+ghost use Rattle.wildmatch.specs.Answers.{hasFlag, modeOf, Answered, codeOf};
+ghost use Rattle.wildmatch.specs.Test.{matchesTest};
+use crate::Mode;
+use crate::matcher::Outcome;
+use crate::matcher::match_items;
+use refusals::flags_high;
+use refusals::holds_zero;
+use refusals::too_long;
+
+// What the matcher answers; a refusal carries its number and nothing else.
+pub enum Answer {
+    Unmatched,
+    Matched,
+    Refused(u8),
+}
+
+// Whether a flags number has this flag; 3 has both.
+fn has_flag(flags: u64, flag: u64) -> bool
+    ensures { λ r. ⌜ r ≡ hasFlag flags flag ⌝ }
+{
+    flags == flag || flags == 3
+}
+
+// The modes that a flags number asks for.
+pub fn mode_of(flags: u64) -> Mode
+    ensures { λ r. ⌜ r ≡ modeOf flags ⌝ }
+{
+    Mode {
+        path: has_flag(flags, 1),
+        fold: has_flag(flags, 2),
+    }
+}
+
+// Whether the pattern matches the text, of any length and with any bytes: for callers that have done their own refusing.
+pub fn matches(pattern: &[u8], text: &[u8], mode: Mode) -> bool
+    ensures { λ r. ⌜ r ≡ matchesTest mode (now (pattern .entry)) (now (text .entry)) ⌝ }
+{
+    match match_items(pattern, text, mode, true) {
+        Outcome::Matched => true,
+        Outcome::Failed => false,
+        Outcome::FailedNear => false,
+        Outcome::FailedFar => false,
+    }
+}
+
+// Whether the pattern matches the text, or the lowest refusal.
+pub fn wildmatch(pattern: &[u8], text: &[u8], flags: u64) -> Answer
+    ensures { λ r. ⌜ Answered (now (pattern .entry)) (now (text .entry)) flags r ⌝ }
+{
+    if too_long(pattern, text) {
+        return Answer::Refused(7);
+    }
+    if holds_zero(pattern) {
+        return Answer::Refused(8);
+    }
+    if holds_zero(text) {
+        return Answer::Refused(8);
+    }
+    if flags_high(flags) {
+        return Answer::Refused(9);
+    }
+    if matches(pattern, text, mode_of(flags)) {
+        return Answer::Matched;
+    }
+    Answer::Unmatched
+}
+
+// The number that C gets for an answer.
+pub fn code_of(answer: Answer) -> u32
+    ensures { λ r. ⌜ r ≡ codeOf answer ⌝ }
+{
+    match answer {
+        Answer::Unmatched => 0,
+        Answer::Matched => 1,
+        Answer::Refused(n) => 16 + (n as u32),
+    }
+}

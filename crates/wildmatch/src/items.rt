@@ -1,0 +1,111 @@
+// Items that take one byte.
+ghost use mathlib.Core.Path.{_≡_};
+ghost use mathlib.Core.Bool.{cond};
+ghost use lib.Dec.{eqb};
+ghost use Rattle.classes.specs.Letters.{folded};
+ghost use Rattle.wildmatch.specs.Sharing.{inside};
+ghost use Rattle.classes.specs.Members.{readClass};
+ghost use Rattle.wildmatch.specs.Patterns.{readBracket};
+ghost use Rattle.wildmatch.specs.Outcomes.{isLiteral, takenBy, taken};
+use crate::Mode;
+use classes::class::Tested;
+use classes::class::test_class;
+use classes::letters::to_lower;
+use classes::letters::to_upper;
+
+// Whether the literal c accepts the byte x.
+pub fn same(c: u8, x: u8, fold: bool) -> bool
+    ensures { λ r. ⌜ r ≡ folded fold (λ y. eqb y c) x ⌝ }
+{
+    if fold {
+        return to_lower(x) == c || to_upper(x) == c;
+    }
+    x == c
+}
+
+// Whether x may be taken by what takes any byte, in path mode any but `/`.
+pub fn is_inside(x: u8, m: Mode) -> bool
+    ensures { λ r. ⌜ r ≡ inside m x ⌝ }
+{
+    if m.path {
+        return x != 47;
+    }
+    true
+}
+
+// n where the item accepts, else 0.
+fn sized(accepts: bool, n: usize) -> usize
+    ensures { λ r. ⌜ r ≡ cond accepts n 0 ⌝ }
+{
+    if accepts { n } else { 0 }
+}
+
+// The size of the class that begins with `[` before q, where it accepts x; else 0.
+fn class_takes(q: &[u8], x: u8, m: Mode) -> usize
+    ensures { λ r. ⌜ r ≡ takenBy m x (readBracket (readClass (now (q .entry)))) ⌝ }
+{
+    if !is_inside(x, m) {
+        return 0;
+    }
+    match test_class(q, x, m.fold) {
+        Tested::Bad => 0,
+        Tested::Read(accepts, n) => sized(accepts, n + 1),
+    }
+}
+
+// What `item_takes` answers, by the item's sign.
+pub fn other_takes(p: &[u8], x: u8, m: Mode) -> usize
+    ensures { λ r. ⌜ r ≡ taken m (now (p .entry)) x ⌝ }
+{
+    if p.len() == 0 {
+        return 0;
+    }
+    let c = p[0];
+    if c == 92 {
+        if p.len() < 2 {
+            return 0;
+        }
+        return sized(same(p[1], x, m.fold), 2);
+    }
+    if c == 63 {
+        return sized(is_inside(x, m), 1);
+    }
+    if c == 42 {
+        return 0;
+    }
+    if c == 91 {
+        return class_takes(&p[1..], x, m);
+    }
+    sized(same(c, x, m.fold), 1)
+}
+
+// Whether the byte stands for itself as an item.
+pub fn is_literal(c: u8) -> bool
+    ensures { λ r. ⌜ r ≡ isLiteral c ⌝ }
+{
+    if c == 42 {
+        return false;
+    }
+    if c == 63 {
+        return false;
+    }
+    if c == 91 {
+        return false;
+    }
+    c != 92
+}
+
+// How many bytes the first item of p is written with, where it is of one byte and accepts x; else 0.
+// Literals are the commonest items, and the test of the others stays a call of its own.
+pub fn item_takes(p: &[u8], x: u8, m: Mode) -> usize
+    ensures { λ r. ⌜ r ≡ taken m (now (p .entry)) x ⌝ }
+{
+    if p.len() == 0 {
+        return 0;
+    }
+    let c = p[0];
+    if is_literal(c) {
+        return sized(same(c, x, m.fold), 1);
+    }
+    other_takes(p, x, m)
+}

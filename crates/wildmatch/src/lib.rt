@@ -1,0 +1,14 @@
+// The matcher of document 01, "Patterns".
+pub mod answer;
+mod items;
+mod matcher;
+mod runs;
+mod segment;
+mod skip;
+mod way;
+
+// The matcher's two flags.
+pub struct Mode {
+    pub path: bool,
+    pub fold: bool,
+}

@@ -1,0 +1,97 @@
+//! Every boundary of refusals 7, 8 and 9, and the lowest where several hold.
+use crate::archive;
+use crate::check::Check;
+use crate::twin;
+
+const FLAGS: [u64; 12] = [0, 1, 2, 3, 4, 5, 255, 1 << 32, (1 << 32) + 1, 1 << 63, u64::MAX - 1, u64::MAX];
+const PATTERN_LENGTHS: [usize; 7] = [0, 1, 2, 2047, 2048, 2049, 4097];
+const TEXT_LENGTHS: [usize; 8] = [0, 1, 2, 2049, 4095, 4096, 4097, 8193];
+
+pub fn run(check: &mut Check) {
+    for fill in [b'a', b'*', b'?', b'/', b'\\', b'[', 0xff] {
+        lengths(check, fill);
+    }
+    zero_bytes(check);
+    words(check);
+    far_over(check);
+    for flags in FLAGS {
+        let want = twin::match_code(b"", b"", flags);
+        check.judge(b"", b"", flags, want, archive::ask_null(flags), false);
+    }
+}
+
+/// Both lengths over their limits and under, with every flags number.
+fn lengths(check: &mut Check, fill: u8) {
+    for pattern in PATTERN_LENGTHS {
+        for text in TEXT_LENGTHS {
+            for flags in FLAGS {
+                check.case(&vec![fill; pattern], &vec![b'a'; text], flags);
+            }
+        }
+    }
+}
+
+/// Byte 0 nowhere, first, in the middle and last, in each and in both; at
+/// every length up to 40 each place, so that no block or tail of a scan is
+/// left out.
+fn zero_bytes(check: &mut Check) {
+    for pattern in PATTERN_LENGTHS {
+        for text in TEXT_LENGTHS {
+            for p in places(pattern) {
+                for t in places(text) {
+                    for flags in FLAGS {
+                        check.case(&zeroed(pattern, p), &zeroed(text, t), flags);
+                    }
+                }
+            }
+        }
+    }
+    for length in 1..=40 {
+        for place in 0..length {
+            check.case(&zeroed(length, Some(place)), b"a", 1);
+            check.case(b"*", &zeroed(length, Some(place)), 1);
+        }
+    }
+    for place in 0..4096 {
+        check.case(b"*", &zeroed(4096, Some(place)), 1);
+        check.case(&zeroed(2048, Some(place / 2)), b"a", 1);
+    }
+}
+
+fn places(length: usize) -> Vec<Option<usize>> {
+    let mut places = vec![None];
+    if length > 0 {
+        places.extend([Some(0), Some(length / 2), Some(length - 1)]);
+    }
+    places.dedup();
+    places
+}
+
+fn zeroed(length: usize, place: Option<usize>) -> Vec<u8> {
+    let mut bytes = vec![b'a'; length];
+    if let Some(place) = place {
+        bytes[place] = 0;
+    }
+    bytes
+}
+
+/// Refusal 7 far over the limits, byte 0 and flags bad as well.
+fn far_over(check: &mut Check) {
+    let long = vec![0; 5_000_000];
+    for (pattern, text) in [(&long[..], &b"a"[..]), (b"a", &long), (&long, &long)] {
+        for flags in FLAGS {
+            let want = twin::match_code(pattern, text, flags);
+            let got = archive::ask_bare(pattern, text, flags);
+            check.judge(&[], &[], flags, want, got, false);
+        }
+    }
+}
+
+/// Every flags number of one bit and of few bits: none of the 64 is dropped.
+fn words(check: &mut Check) {
+    for bit in 0..64 {
+        for low in 0..4 {
+            check.case(b"[a-z]/B", b"A/b", 1 << bit | low);
+        }
+    }
+}
