@@ -20,8 +20,22 @@ pub fn too_long(pattern: &[u8], text: &[u8]) -> bool
     TEXT_LIMIT < text.len()
 }
 
-// Whether byte 0 is among the bytes. The loop runs to the end, so that the compiler can take many bytes at a time.
-pub fn holds_zero(bytes: &[u8]) -> bool
+// Whether byte 0 is among a few bytes.
+fn zero_in_few(bytes: &[u8]) -> bool
+    ensures { λ r. ⌜ (r ≡ true) ↔ HoldsZero (now (bytes .entry)) ⌝ }
+{
+    let mut i = 0;
+    while i < bytes.len() {
+        if bytes[i] == 0 {
+            return true;
+        }
+        i += 1;
+    }
+    false
+}
+
+// The same of many bytes. The loop runs to the end, so that the compiler can take several bytes at a time.
+fn zero_in_many(bytes: &[u8]) -> bool
     ensures { λ r. ⌜ (r ≡ true) ↔ HoldsZero (now (bytes .entry)) ⌝ }
 {
     let mut found = false;
@@ -33,6 +47,16 @@ pub fn holds_zero(bytes: &[u8]) -> bool
         i += 1;
     }
     found
+}
+
+// Whether byte 0 is among the bytes.
+pub fn holds_zero(bytes: &[u8]) -> bool
+    ensures { λ r. ⌜ (r ≡ true) ↔ HoldsZero (now (bytes .entry)) ⌝ }
+{
+    if bytes.len() < 32 {
+        return zero_in_few(bytes);
+    }
+    zero_in_many(bytes)
 }
 
 // Whether the flags number is above the highest.

@@ -1,44 +1,31 @@
+-- `wildmatch::items::item_takes` meets its contract: a literal that is the byte itself is taken; else the general case.
 use Rattle.wildmatch.proofs.ItemLaws.{taken-nil, taken-plain}
 use mathlib.Core.Path.{sym, _∙_}
 use borrow.Author.Needs.{needs}
 use Rattle.wildmatch.proofs.items.item_takes.Statement.{statement}
 use Rattle.wildmatch.proofs.items.item_takes.Tie as tie
-use Rattle.wildmatch.proofs.items.item_takes.Reads as reads
-use Rattle.wildmatch.proofs.items.item_takes.Lts as lts
-use Rattle.wildmatch.proofs.items.is_literal.Reads as is-literal-reads
-use Rattle.wildmatch.proofs.items.other_takes.Reads as other-takes-reads
-use Rattle.wildmatch.proofs.items.same.Reads as same-reads
-use Rattle.wildmatch.proofs.items.sized.Reads as sized-reads
 
--- src/items.rt:104:9
 returns : tie.Need-returns
 returns c = taken-nil _ _ _ (c .if1 .taken)
 
--- src/items.rt:106:13
 shared-slice-read-c : tie.Need-shared-slice-read-c
 shared-slice-read-c c = search needs
 
--- src/items.rt:107:8
 is-literal-requires : tie.Need-is-literal-requires
 is-literal-requires c κs = search needs
 
--- src/items.rt:108:22
 same-requires : tie.Need-same-requires
 same-requires c κs = search needs
 
--- src/items.rt:108:9
 sized-requires : tie.Need-sized-requires
 sized-requires c κs = search needs
 
--- src/items.rt:108:9
 returns-2 : tie.Need-returns-2
 returns-2 c = taken-plain _ _ _ _ _ (c .before .before .before .before .before .if1 .left) (sym (c .before .before .before .is-literal .ensures) ∙ c .before .before .if2 .taken) (c .before .same .ensures) (c .sized .ensures)
 
--- src/items.rt:110:5
 other-takes-requires : tie.Need-other-takes-requires
 other-takes-requires c κs = search needs
 
--- src/items.rt:100:1
 returns-3 : tie.Need-returns-3
 returns-3 c = search needs
 

@@ -1,3 +1,4 @@
+-- The item matcher and the run matcher, which call each other, meet their contracts; what is left of pattern and text falls as a pair.
 use Rattle.wildmatch.proofs.CrossLaws.{Cross, cross-begin, cross-next, cross-matched, cross-decides, cross-end, cross-failed, cross-near}
 use Rattle.wildmatch.proofs.MatcherLaws.{says-is, stops-is, skipped-later, next-later}
 use Rattle.wildmatch.proofs.ReachLaws.{Reached, reach-begin, reach-fits, reach-whole, reach-short, reach-failed, reach-end, reach-stop, reach-next, reach-run-fits, reach-star, reach-all, reach-slash, reach-within, leads-fits, leads-slash-fits, leads-is, left-falls}

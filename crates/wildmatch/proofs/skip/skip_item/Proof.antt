@@ -1,3 +1,4 @@
+-- `wildmatch::skip::skip_item` meets its contract.
 use Rattle.wildmatch.proofs.SkipLaws.{passed-begin, passed-next}
 use Rattle.wildmatch.specs.Outcomes.{taken, Passed}
 use mathlib.Core.Path.{_≡_, sym, _∙_}
@@ -8,10 +9,6 @@ use borrow.Author.Needs.{needs}
 use native.Mathlib.Omega.{arith}
 use Rattle.wildmatch.proofs.skip.skip_item.Statement.{statement}
 use Rattle.wildmatch.proofs.skip.skip_item.Tie as tie
-use Rattle.wildmatch.proofs.skip.skip_item.Reads as reads
-use Rattle.wildmatch.proofs.skip.skip_item.Lts as lts
-use Rattle.wildmatch.proofs.items.is_inside.Reads as is-inside-reads
-use Rattle.wildmatch.proofs.items.other_takes.Reads as other-takes-reads
 
 abbrev Inv-loop : tie.InvT-loop
 Inv-loop p t k m j₀ j = Passed m (λ i. taken m p (getD t i 0) ≡ 0) t k j
@@ -19,43 +16,33 @@ Inv-loop p t k m j₀ j = Passed m (λ i. taken m p (getD t i 0) ≡ 0) t k j
 abbrev μ-loop : tie.MeasureT-loop
 μ-loop p t k m j₀ j = length t - j
 
--- src/skip.rt:55:5
 loop-holds : tie.Need-loop-holds Inv-loop μ-loop
 loop-holds c = passed-begin _ _ _ _ (c .before .before .pre)
 
--- src/skip.rt:56:17
 shared-slice-read-x : tie.Need-shared-slice-read-x Inv-loop μ-loop
 shared-slice-read-x c = omega arith
 
--- src/skip.rt:57:12
 other-takes-requires : tie.Need-other-takes-requires Inv-loop μ-loop
 other-takes-requires c κs = search needs
 
--- src/skip.rt:58:13
 returns : tie.Need-returns Inv-loop μ-loop
 returns c = c .before .before .before .before .loop .inv
 
--- src/skip.rt:60:13
 is-inside-requires : tie.Need-is-inside-requires Inv-loop μ-loop
 is-inside-requires c κs = search needs
 
--- src/skip.rt:61:13
 returns-2 : tie.Need-returns-2 Inv-loop μ-loop
 returns-2 c = c .before .before .before .before .before .before .loop .inv
 
--- src/skip.rt:63:9
 add-j : tie.Need-add-j Inv-loop μ-loop
 add-j c = omega arith
 
--- src/skip.rt:55:5
 loop-less : tie.Need-loop-less Inv-loop μ-loop
 loop-less c = omega arith
 
--- src/skip.rt:55:5
 loop-again : tie.Need-loop-again Inv-loop μ-loop
 loop-again c = passed-next _ _ _ _ _ (c .before .before .before .before .before .before .loop .inv) (c .before .before .before .before .before .loop-test .taken) (sym (c .before .is-inside .ensures) ∙ not-false _ (c .if2 .left)) (sym (c .before .before .before .other-takes .ensures) ∙ c .before .before .if1 .left)
 
--- src/skip.rt:50:1
 returns-3 : tie.Need-returns-3 Inv-loop μ-loop
 returns-3 c = c .before .loop .inv
 

@@ -1,3 +1,4 @@
+-- `wildmatch::way::read_way` meets its contract.
 use Rattle.wildmatch.proofs.WayLaws.{leads-plain, leads-within, leads-all, leads-slash, leads-escaped}
 use Rattle.wildmatch.proofs.MatcherLaws.{run-fits}
 use mathlib.Core.Path.{_∙_, sym}
@@ -6,61 +7,43 @@ use native.Mathlib.Omega.{arith}
 use borrow.Author.Needs.{needs}
 use Rattle.wildmatch.proofs.way.read_way.Statement.{statement}
 use Rattle.wildmatch.proofs.way.read_way.Tie as tie
-use Rattle.wildmatch.proofs.way.read_way.Reads as reads
-use Rattle.wildmatch.proofs.way.read_way.Lts as lts
-use Rattle.wildmatch.proofs.runs.run_crosses.Reads as run-crosses-reads
-use Rattle.wildmatch.proofs.runs.star_count.Reads as star-count-reads
-use Rattle.wildmatch.proofs.runs.starts_slash.Reads as starts-slash-reads
 
--- src/way.rt:24:9
 star-count-requires : tie.Need-star-count-requires
 star-count-requires c κs = search needs
 
--- src/way.rt:26:9
 returns : tie.Need-returns
 returns c = leads-plain _ _ _ _ (c .before .before .before .before .pre .0) (c .before .before .before .before .pre .1) (c .before .before .star-count .ensures) (not-true _ (c .if1 .taken))
 
--- src/way.rt:28:16
 sub-rest : tie.Need-sub-rest
 sub-rest c = let h = run-fits _ _ (c .before .before .before .before .pre .1) (c .before .before .star-count .ensures) in omega arith
 
--- src/way.rt:28:16
 part-rest-start : tie.Need-part-rest-start
 part-rest-start c = let h = run-fits _ _ (c .before .before .before .before .pre .1) (c .before .before .star-count .ensures) in omega arith
 
--- src/way.rt:28:16
 part-rest-end : tie.Need-part-rest-end
 part-rest-end c = search needs
 
--- src/way.rt:29:9
 run-crosses-requires : tie.Need-run-crosses-requires
 run-crosses-requires c κs = search needs
 
--- src/way.rt:30:9
 returns-2 : tie.Need-returns-2
 returns-2 c = leads-within _ _ _ _ (c .before .before .before .before .before .before .before .pre .0) (c .before .before .before .before .before .before .before .pre .1) (c .before .before .before .before .before .star-count .ensures) (sym (c .before .run-crosses .ensures) ∙ not-true _ (c .if2 .taken))
 
--- src/way.rt:33:9
 returns-3 : tie.Need-returns-3
 returns-3 c = leads-all _ _ _ _ (c .before .before .before .before .before .before .before .before .pre .0) (c .before .before .before .before .before .before .before .before .pre .1) (c .before .before .before .before .before .before .star-count .ensures) (sym (c .before .before .run-crosses .ensures) ∙ not-false _ (c .before .if2 .left)) (c .if3 .taken)
 
--- src/way.rt:35:8
 starts-slash-requires : tie.Need-starts-slash-requires
 starts-slash-requires c κs = search needs
 
--- src/way.rt:36:29
 add-t12 : tie.Need-add-t12
 add-t12 c = let h = run-fits _ _ (c .before .before .before .before .before .before .before .before .before .before .pre .1) (c .before .before .before .before .before .before .before .before .star-count .ensures) in omega arith
 
--- src/way.rt:36:9
 returns-4 : tie.Need-returns-4
 returns-4 c = leads-slash _ _ _ _ (c .before .before .before .before .before .before .before .before .before .before .pre .0) (c .before .before .before .before .before .before .before .before .before .before .pre .1) (c .before .before .before .before .before .before .before .before .star-count .ensures) (not-false _ (c .before .before .before .before .before .before .if1 .left)) (sym (c .before .before .before .before .run-crosses .ensures) ∙ not-false _ (c .before .before .before .if2 .left)) (sym (c .before .starts-slash .ensures) ∙ c .if4 .taken)
 
--- src/way.rt:38:18
 add-t8 : tie.Need-add-t8
 add-t8 c = let h = run-fits _ _ (c .before .before .before .before .before .before .before .before .before .before .pre .1) (c .before .before .before .before .before .before .before .before .star-count .ensures) in omega arith
 
--- src/way.rt:20:1
 returns-5 : tie.Need-returns-5
 returns-5 c = leads-escaped _ _ _ _ (c .before .before .before .before .before .before .before .before .before .before .pre .0) (c .before .before .before .before .before .before .before .before .before .before .pre .1) (c .before .before .before .before .before .before .before .before .star-count .ensures) (sym (c .before .before .before .before .run-crosses .ensures) ∙ not-false _ (c .before .before .before .if2 .left)) (c .before .before .if3 .left) (sym (c .before .starts-slash .ensures) ∙ c .if4 .left)
 

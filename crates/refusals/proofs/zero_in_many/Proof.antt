@@ -1,11 +1,11 @@
--- `refusals::holds_zero` meets its contract: at each turn `found` says whether byte 0 was among the bytes passed.
+-- `refusals::zero_in_many` meets its contract: at each turn `found` says whether byte 0 was among the bytes passed.
 use Rattle.refusals.proofs.ZeroLaws.{Seen, seen-begin, seen-zero, seen-other, seen-end}
 use mathlib.Core.Logic.{⊎-elim}
 use Prim.Native.Nat.{_-_}
 use lib.ListN.{length}
 use native.Mathlib.Omega.{arith}
-use Rattle.refusals.proofs.holds_zero.Statement.{statement}
-use Rattle.refusals.proofs.holds_zero.Tie as tie
+use Rattle.refusals.proofs.zero_in_many.Statement.{statement}
+use Rattle.refusals.proofs.zero_in_many.Tie as tie
 
 abbrev Inv-loop : tie.InvT-loop
 Inv-loop bytes found₀ i₀ found i = Seen bytes found i
@@ -31,7 +31,7 @@ loop-again c = ⊎-elim (λ w. seen-zero _ _ _ (c .before .before .loop-test .ta
 returns : tie.Need-returns Inv-loop μ-loop
 returns c = seen-end _ _ _ (c .before .loop .inv) (c .loop-test .left)
 
-pub holds-zero-spec : {M : Type 1} → statement M
-holds-zero-spec =
+pub zero-in-many-spec : {M : Type 1} → statement M
+zero-in-many-spec =
     tie.close
     (tie.spec Inv-loop μ-loop loop-holds shared-slice-read-if1 add-i loop-less loop-again returns)
