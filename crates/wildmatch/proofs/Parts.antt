@@ -5,15 +5,9 @@ use mathlib.Core.List.{List, [], _∷_}
 use Prim.Native.Nat.{ℕ, zero, suc, _+_, _-_, _<_, _≤_}
 use native.Mathlib.Nat.{le-refl}
 use native.Mathlib.Omega.{arith}
+pub use Rattle.classes.proofs.MemberLaws.{from, from-drop}
 use lib.ListN.{length, take, drop, getD, length-drop}
 use lib.Seq.{take-all, drop-drop, getD-drop}
-
--- the part `&l[n..]`
-abbrev pub from : ℕ → List ℕ → List ℕ
-from n l = take (length l - n) (drop n l)
-
-pub from-drop : (n : ℕ) (l : List ℕ) → from n l ≡ drop n l
-from-drop n l = take-all (length l - n) (drop n l) (simp length-drop (le-refl _))
 
 pub false-if-not : (b : Bool) → (b ≡ true → ⊥) → b ≡ false
 false-if-not true h = absurd (h refl)
