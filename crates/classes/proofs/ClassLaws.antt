@@ -14,7 +14,8 @@ use Rattle.classes.proofs.LetterLaws.{or-same}
 use Rattle.classes.proofs.MemberLaws.{from, from-drop}
 use Rattle.classes.proofs.SizeLaws.{Ends, Ended, ends-more, members-ended}
 use Rattle.classes.specs.Letters.{lower, upper, folded}
-use Rattle.classes.specs.Members.{Member, anyLists, accepted, Members, members, Class, classOf, notSign, readClass, tested, scanned}
+use Rattle.classes.specs.Members.{Member, anyLists, accepted, Members, members, Class, classOf, notSign, readClass, tested}
+use Rattle.classes.specs.Scan.{scanned}
 use Rattle.classes.specs.declared.class.Tested.{Tested}
 use Rattle.classes.specs.declared.class.Tested.the-variants.{Bad, Read}
 

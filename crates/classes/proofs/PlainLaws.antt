@@ -11,7 +11,8 @@ use lib.Seq.{drop-cons, drop-drop, getD-drop}
 use borrow.Author.Tests.{eq-eqb, ne-eqb, eqb-true, eqb-false}
 use Rattle.classes.proofs.MemberLaws.{name-empty, name-plain}
 use Rattle.classes.proofs.SizeLaws.{Within, next-within}
-use Rattle.classes.specs.Members.{untilClose, noName, nameAt, bracketAt, nextMember, PlainTo}
+use Rattle.classes.specs.Members.{untilClose, noName, nameAt, bracketAt, nextMember}
+use Rattle.classes.specs.Scan.{PlainTo}
 use Rattle.classes.specs.declared.members.Next.{Next}
 use Rattle.classes.specs.declared.members.Next.the-variants.{Plain}
 

@@ -12,7 +12,8 @@ use lib.Seq.{drop-nil, drop-drop}
 use borrow.Author.Tests.{ne-eqb}
 use Rattle.classes.proofs.PlainLaws.{plain-on}
 use Rattle.classes.proofs.SizeLaws.{Within, next-within}
-use Rattle.classes.specs.Members.{Member, byte, range, name, lists, anyLists, nextMember, Members, longer, andMember, membersAfter, members, scanned, PlainTo}
+use Rattle.classes.specs.Members.{Member, byte, range, name, lists, anyLists, nextMember, Members, longer, andMember, membersAfter, members}
+use Rattle.classes.specs.Scan.{scanned, PlainTo}
 use Rattle.classes.specs.declared.members.Next.{Next}
 use Rattle.classes.specs.declared.members.Next.the-variants.{Close, Broken, Byte, Range, Name, Plain}
 use Rattle.classes.specs.declared.class.Tested.{Tested}

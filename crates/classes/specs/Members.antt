@@ -150,14 +150,3 @@ readClass q = cond (notSign q) (classOf true 1 (members (drop 1 q) 0 true)) (cla
 unfoldable pub tested : Bool → ℕ → Option Class → Tested
 tested fold x none = Bad
 tested fold x (some c) = Read (accepted fold (c .negated) (c .list) x) (c .size)
-
--- what the code finds on the way: whether a member lists x or y
-unfoldable pub scanned : ℕ → ℕ → Option Members → Tested
-scanned x y none = Bad
-scanned x y (some r) = Read (anyLists (r .list) x || anyLists (r .list) y) (r .size)
-
--- what the code knows on the way: from the i-th byte on, "the next `]`" after each `[:` that stands before the place p is that at p,
--- and "the inner `[` is a plain member"
-pub record PlainTo (q : List ℕ) (i p : ℕ) : Type 0 where
-  pub within : p ≤ length q
-  pub later : (j : ℕ) → i ≤ j → j + 2 ≤ p → getD q j 0 ≡ 91 → getD q (j + 1) 0 ≡ 58 → nextMember (eqb j 0) (drop j q) ≡ Plain (p - j - 2)

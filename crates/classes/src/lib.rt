@@ -2,5 +2,5 @@
 // Document 01, "Patterns", is stated in specs/; each contract names its definition there.
 pub mod class;
 pub mod letters;
-pub mod members;
-pub mod names;
+mod members;
+mod names;

@@ -5,7 +5,8 @@ ghost use Rattle.classes.specs.Members.{single, untilClose, nameAt, brac
 use crate::names::which_name;
 
 // What stands next in a class: its closing `]`, nothing that can be read, or a member: a byte, a range or one of the twelve names, and last
-// the number of bytes that it is written with. `Plain(n)`: a `[` that is a plain member though `[:` stands there, n bytes before the next `]`.
+// the number of bytes that it is written with. `Plain(n)`: a `[` that is a plain member though `[:` stands there,
+// with n bytes between that and the next `]`.
 pub enum Next {
     Close,
     Broken,

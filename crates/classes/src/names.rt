@@ -5,7 +5,7 @@ ghost use lib.ListN.{getD};
 ghost use Rattle.classes.specs.Names.{named, whichName};
 ghost use Rattle.classes.specs.Tables.{rangeRows, wordOf, nameWords};
 
-// The ranges of each name: four of 16 bits, the first lowest, each with its first byte above its last.
+// The ranges of each name: four of 16 bits, the first lowest, each with its first byte in its upper half.
 // 0x0100 where there are fewer, a range of no byte.
 const RANGES: [u64; 12] = [
     0x0100_617a_415a_3039, // alnum

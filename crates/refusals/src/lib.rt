@@ -2,7 +2,9 @@
 ghost use mathlib.Core.Path.{_≡_};
 ghost use mathlib.Core.Logic.{_↔_};
 ghost use mathlib.Core.Bool.{true};
-ghost use Rattle.refusals.specs.Refusals.{TooLong, HoldsZero, FlagsHigh};
+ghost use Prim.Native.Nat.{_+_, _≤_};
+ghost use lib.ListN.{length};
+ghost use Rattle.refusals.specs.Refusals.{TooLong, HoldsZero, FlagsHigh, ZeroIn};
 
 const PATTERN_LIMIT: usize = 2048;
 
@@ -20,43 +22,40 @@ pub fn too_long(pattern: &[u8], text: &[u8]) -> bool
     TEXT_LIMIT < text.len()
 }
 
-// Whether byte 0 is among a few bytes.
-fn zero_in_few(bytes: &[u8]) -> bool
-    ensures { λ r. ⌜ (r ≡ true) ↔ HoldsZero (now (bytes .entry)) ⌝ }
-{
-    let mut i = 0;
-    while i < bytes.len() {
-        if bytes[i] == 0 {
-            return true;
-        }
-        i += 1;
-    }
-    false
-}
-
-// The same of many bytes. The loop runs to the end, so that the compiler can take several bytes at a time.
-fn zero_in_many(bytes: &[u8]) -> bool
-    ensures { λ r. ⌜ (r ≡ true) ↔ HoldsZero (now (bytes .entry)) ⌝ }
+// Whether byte 0 is among the n bytes from place i. The loop runs to its end, so that the compiler can take several bytes at a time.
+fn zero_in(bytes: &[u8], i: usize, n: usize) -> bool
+    requires { ⌜ i + n ≤ length (now bytes) ⌝ }
+    ensures { λ r. ⌜ (r ≡ true) ↔ ZeroIn (now (bytes .entry)) i (i + n) ⌝ }
 {
     let mut found = false;
-    let mut i = 0;
-    while i < bytes.len() {
-        if bytes[i] == 0 {
+    let mut j = 0;
+    while j < n {
+        if bytes[i + j] == 0 {
             found = true;
         }
-        i += 1;
+        j += 1;
     }
     found
 }
 
-// Whether byte 0 is among the bytes.
+// Whether byte 0 is among the bytes. Short slices are covered by two parts of one size that may overlap.
 pub fn holds_zero(bytes: &[u8]) -> bool
     ensures { λ r. ⌜ (r ≡ true) ↔ HoldsZero (now (bytes .entry)) ⌝ }
 {
-    if bytes.len() < 32 {
-        return zero_in_few(bytes);
+    let n = bytes.len();
+    if n < 4 {
+        return zero_in(bytes, 0, n);
     }
-    zero_in_many(bytes)
+    if n < 8 {
+        return zero_in(bytes, 0, 4) || zero_in(bytes, n - 4, 4);
+    }
+    if n <= 16 {
+        return zero_in(bytes, 0, 8) || zero_in(bytes, n - 8, 8);
+    }
+    if n <= 32 {
+        return zero_in(bytes, 0, 16) || zero_in(bytes, n - 16, 16);
+    }
+    zero_in(bytes, 0, n)
 }
 
 // Whether the flags number is above the highest.

@@ -2,11 +2,12 @@
 use Prim.Native.Nat.{ℕ, _+_}
 use mathlib.Core.Path.{_≡_}
 use mathlib.Core.Logic.{_↔_}
-use mathlib.Core.Bool.{Bool, _||_}
+use mathlib.Core.Bool.{Bool, true, _||_}
 use mathlib.Core.List.{List}
 use lib.Dec.{eqb}
 use Rattle.refusals.specs.Refusals.{Lowest, Accepted, MatcherRefuses}
 use Rattle.wildmatch.specs.Sharing.{Matches}
+use Rattle.wildmatch.specs.Test.{matchesTest}
 use Rattle.wildmatch.specs.declared.Mode.{Mode}
 use Rattle.wildmatch.specs.declared.answer.Answer.{Answer}
 use Rattle.wildmatch.specs.declared.answer.Answer.the-variants.{Unmatched, Matched, Refused}
@@ -19,7 +20,13 @@ hasFlag flags flag = eqb flags flag || eqb flags 3
 unfoldable pub modeOf : ℕ → Mode
 modeOf flags = record { path = hasFlag flags 1; fold = hasFlag flags 2 }
 
--- "Each refusal in the table is given exactly when its condition holds, lowest number first, and returns that number only"; otherwise
+-- without refusals: "it matches exactly when the text is the joining, in order, of what its items may take", as the relation and as
+-- the test that decides it
+pub record Decides (mode : Mode) (pattern text : List ℕ) (answer : Bool) : Type 0 where
+  pub means : (answer ≡ true) ↔ Matches mode pattern text
+  pub test : answer ≡ matchesTest mode pattern text
+
+-- Demand 1: "Each refusal in the table is given exactly when its condition holds, lowest number first, and returns that number only."; otherwise 01:
 -- "it matches exactly when the text is the joining, in order, of what its items may take"
 pub record Answered (pattern text : List ℕ) (flags : ℕ) (answer : Answer) : Type 0 where
   pub refused : (n : ℕ) → (answer ≡ Refused n) ↔ Lowest (MatcherRefuses pattern text flags) n

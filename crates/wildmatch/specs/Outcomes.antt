@@ -31,7 +31,7 @@ unfoldable pub taken : Mode → List ℕ → ℕ → ℕ
 taken m [] x = 0
 taken m (y ∷ p) x = takenBy m x (readItem false y p)
 
--- whether the byte before place i of a pattern is `/`; `after` says it of place 0
+-- whether place i starts the whole pattern or follows a byte `/`; `after` says it of place 0
 unfoldable pub afterAt : Bool → List ℕ → ℕ → Bool
 afterAt after p zero = after
 afterAt after p (suc i) = eqb (getD p i 0) 47

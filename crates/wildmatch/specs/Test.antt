@@ -1,4 +1,4 @@
--- Whether a pattern matches, as a test that can be computed. proofs/Meaning.antt shows that it decides `Matches`.
+-- Whether a pattern matches, as a test that can be computed. specs/Meaning.antt proves that it decides `Matches`.
 use Prim.Native.Nat.{ℕ}
 use mathlib.Core.Bool.{Bool, true, false, _&&_, _||_}
 use mathlib.Core.List.{List, [], _∷_}

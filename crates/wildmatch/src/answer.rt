@@ -1,7 +1,6 @@
 // The matcher as it is called from outside: refusals first, then the answer.
 ghost use mathlib.Core.Path.{_≡_};
-ghost use Rattle.wildmatch.specs.Answers.{hasFlag, modeOf, Answered, codeOf};
-ghost use Rattle.wildmatch.specs.Test.{matchesTest};
+ghost use Rattle.wildmatch.specs.Answers.{hasFlag, modeOf, Decides, Answered, codeOf};
 use crate::Mode;
 use crate::matcher::Outcome;
 use crate::matcher::match_items;
@@ -35,9 +34,9 @@ pub fn mode_of(flags: u64) -> Mode
 
 // Whether the pattern matches the text, of any length and with any bytes: for callers that have done their own refusing.
 pub fn matches(pattern: &[u8], text: &[u8], mode: Mode) -> bool
-    ensures { λ r. ⌜ r ≡ matchesTest mode (now (pattern .entry)) (now (text .entry)) ⌝ }
+    ensures { λ r. ⌜ Decides mode (now (pattern .entry)) (now (text .entry)) r ⌝ }
 {
-    match match_items(pattern, text, mode, true) {
+    match match_items(pattern, text, mode) {
         Outcome::Matched => true,
         Outcome::Failed => false,
         Outcome::FailedNear => false,

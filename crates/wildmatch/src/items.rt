@@ -53,7 +53,7 @@ fn class_takes(q: &[u8], x: u8, m: Mode) -> usize
     }
 }
 
-// What `item_takes` answers, by the item's sign.
+// What `item_takes` answers, for the items that are no literals: kept a call of its own, so that the loop over literals stays small.
 pub fn other_takes(p: &[u8], x: u8, m: Mode) -> usize
     ensures { λ r. ⌜ r ≡ taken m (now (p .entry)) x ⌝ }
 {

@@ -21,13 +21,13 @@ pub enum Outcome {
     FailedFar,
 }
 
-// Whether the byte before place i of p is `/`; `after` says it of place 0.
-fn follows_slash(p: &[u8], i: usize, after: bool) -> bool
+// Whether place i starts the pattern p or follows a byte `/`.
+fn follows_slash(p: &[u8], i: usize) -> bool
     requires { ⌜ i ≤ length (now p) ⌝ }
-    ensures { λ r. ⌜ r ≡ afterAt after (now (p .entry)) i ⌝ }
+    ensures { λ r. ⌜ r ≡ afterAt true (now (p .entry)) i ⌝ }
 {
     if i == 0 {
-        return after;
+        return true;
     }
     p[i - 1] == 47
 }
@@ -57,10 +57,10 @@ fn first_place(t: &[u8], here: bool) -> usize
     after_slash(t, 0)
 }
 
-// The pattern p, item by item. `after`: p is the whole pattern, or follows a byte `/`. The segment from place a of p is tried at place k
-// of t; where a run within a component stands before it, it slides on, and the first place where it fits decides.
-pub fn match_items(p: &[u8], t: &[u8], m: Mode, after: bool) -> Outcome
-    ensures { λ r. ⌜ Says m after (tailMatches m after (now (p .entry))) (now (t .entry)) r ⌝ }
+// The pattern p, which is the whole one or follows a byte `/`, item by item. The segment from place a of p is tried at place k of t;
+// where a run within a component stands before it, it slides on, and the first place where it fits decides.
+pub fn match_items(p: &[u8], t: &[u8], m: Mode) -> Outcome
+    ensures { λ r. ⌜ Says m true (tailMatches m true (now (p .entry))) (now (t .entry)) r ⌝ }
 {
     let mut a = 0;
     let mut k = 0;
@@ -83,7 +83,7 @@ pub fn match_items(p: &[u8], t: &[u8], m: Mode, after: bool) -> Outcome
             }
             Stop::Run(i, j) => {
                 let at = a + i;
-                match read_way(&p[at..], m, follows_slash(p, at, after)) {
+                match read_way(&p[at..], m, follows_slash(p, at)) {
                     Way::Within(n) => a = at + n,
                     Way::All => return Outcome::Matched,
                     Way::ToSlash(n, here) => {
@@ -103,7 +103,7 @@ fn match_crossing(p: &[u8], t: &[u8], m: Mode, here: bool) -> Outcome
 {
     let mut k = first_place(t, here);
     while k <= t.len() {
-        match match_items(p, &t[k..], m, true) {
+        match match_items(p, &t[k..], m) {
             Outcome::Matched => {
                 return Outcome::Matched;
             }

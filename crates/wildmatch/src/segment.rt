@@ -3,8 +3,8 @@ ghost use Rattle.wildmatch.specs.Outcomes.{Stops};
 use crate::Mode;
 use crate::items::item_takes;
 
-// Where a segment stops: the pattern and the text end together; an item takes no byte here; the text ends first; or a run stands at a
-// place of the pattern, and a place of the text was reached.
+// Where a segment stops: the pattern and the text end together; an item does not take the byte here, or the pattern ends first; the text
+// ends first; or a run stands at a place of the pattern, and a place of the text was reached.
 pub enum Stop {
     Whole,
     Mismatch,

@@ -6,7 +6,8 @@ use Prim.Native.Nat.{ℕ, _+_, _-_, _≤_}
 use native.Mathlib.Omega.{arith}
 use lib.ListN.{length}
 use borrow.Author.Needs.{needs}
-use Rattle.classes.specs.Members.{Member, PlainTo}
+use Rattle.classes.specs.Members.{Member}
+use Rattle.classes.specs.Scan.{PlainTo}
 use Rattle.classes.proofs.PlainLaws.{plain-start, plain-found}
 use Rattle.classes.proofs.ScanLaws.{member, gained, Left, left-all, left-none, left-close, left-broken, left-size, left-turn, found, found-before, found-now}
 use Rattle.classes.proofs.class.scan_members.Statement.{statement}

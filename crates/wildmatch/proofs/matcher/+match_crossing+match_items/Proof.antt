@@ -5,6 +5,7 @@ use Rattle.wildmatch.proofs.ReachLaws.{Reached, reach-begin, reach-fits
 use Prim.Native.Nat.{_+_, _*_, _-_}
 use mathlib.Core.Path.{_∙_, sym}
 use mathlib.Core.Logic.{⊎-elim}
+use mathlib.Core.Bool.{true}
 use lib.ListN.{length, length-take, length-drop}
 use native.Mathlib.Omega.{arith}
 use borrow.Author.Needs.{needs}
@@ -139,10 +140,10 @@ match-crossing-returns-3 : (t : ℕ) → match-crossing-lts.Need-returns-3 (matc
 match-crossing-returns-3 t c = cross-end _ _ _ _ _ (c .before .loop .inv) (c .loop-test .left)
 
 abbrev match-items-Inv-loop : match-items-lts.InvT-loop
-match-items-Inv-loop p t m after a₀ k₀ slides₀ a k slides = Reached m after p t a k slides
+match-items-Inv-loop p t m a₀ k₀ slides₀ a k slides = Reached m true p t a k slides
 
 abbrev match-items-μ-loop : match-items-lts.MeasureT-loop
-match-items-μ-loop p t m after a₀ k₀ slides₀ a k slides = (length p - a) + (length t - k)
+match-items-μ-loop p t m a₀ k₀ slides₀ a k slides = (length p - a) + (length t - k)
 
 match-items-loop-holds : (t : ℕ) → match-items-lts.Need-loop-holds (match-items-claims t) (match-items-at t) match-items.Post match-items-Inv-loop match-items-μ-loop
 match-items-loop-holds t c = reach-begin _ _ _ _
