@@ -1,6 +1,5 @@
 -- Document 01, "Patterns": "`[`, then perhaps `!` or `^` for "not", then members up to `]`".
-use Prim.Native.Nat.{ℕ, zero, suc, pred, _+_, _-_, _≤_}
-use mathlib.Core.Path.{_≡_}
+use Prim.Native.Nat.{ℕ, zero, suc, pred, _+_, _-_}
 use mathlib.Core.Bool.{Bool, true, false, cond, not, _&&_, _||_}
 use mathlib.Core.List.{List, [], _∷_}
 use mathlib.Core.Option.{Option, none, some}
@@ -105,10 +104,12 @@ pub record Members : Type 0 where
   pub list : List Member
   pub size : ℕ
 
+-- one byte more belongs to the member before
 abbrev pub longer : Option Members → Option Members
 longer none = none
 longer (some r) = some (record { list = r .list; size = suc (r .size) })
 
+-- one member more, whose first byte is counted here
 abbrev pub andMember : Member → Option Members → Option Members
 andMember m none = none
 andMember m (some r) = some (record { list = m ∷ r .list; size = suc (r .size) })
@@ -134,10 +135,12 @@ pub record Class : Type 0 where
   pub list : List Member
   pub size : ℕ
 
+-- the class of n bytes before its members
 abbrev pub classOf : Bool → ℕ → Option Members → Option Class
 classOf neg n none = none
 classOf neg n (some r) = some (record { negated = neg; list = r .list; size = n + r .size })
 
+-- "perhaps `!` or `^` for "not""
 abbrev pub notSign : List ℕ → Bool
 notSign [] = false
 notSign (x ∷ q) = eqb x 33 || eqb x 94

@@ -1,8 +1,8 @@
 -- The lowest refusal is one, and an accepted question has none.
-use mathlib.Core.Path.{_≡_, refl, sym, ap, subst}
+use mathlib.Core.Path.{_≡_, refl}
 use mathlib.Core.Logic.{_⊎_, inl, inr, ⊎-elim}
 use mathlib.Core.List.{List}
-use Prim.Native.Nat.{ℕ, _<_, _≤_}
+use Prim.Native.Nat.{ℕ}
 use native.Mathlib.Omega.{arith}
 use Rattle.refusals.proofs.Order.{before-or-not}
 use Rattle.refusals.specs.Refusals.{TooLong, HoldsZero, FlagsHigh, Lowest, Accepted, MatcherRefuses}

@@ -1,6 +1,6 @@
 -- Each answer of the matcher means what specs/Answers.antt says.
 use mathlib.Core.Path.{_≡_, refl, sym, ap, subst, _∙_}
-use mathlib.Core.Logic.{_⊎_, inl, inr, ⊎-elim, _↔_}
+use mathlib.Core.Logic.{_↔_}
 use mathlib.Core.Bool.{Bool, true, false, false≢true}
 use mathlib.Core.List.{List}
 use Prim.Native.Nat.{ℕ}
@@ -12,7 +12,6 @@ use Rattle.wildmatch.specs.Test.{matchesTest}
 use Rattle.wildmatch.specs.Meaning.{test-decides}
 use Rattle.wildmatch.specs.Answers.{modeOf, Decides, Answered}
 use Rattle.wildmatch.specs.declared.Mode.{Mode}
-use Rattle.wildmatch.specs.declared.answer.Answer.{Answer}
 use Rattle.wildmatch.specs.declared.answer.Answer.the-variants.{Unmatched, Matched, Refused}
 
 clash : {A : Type 0} → _≡_ {A = ℕ} 0 1 → A

@@ -1,22 +1,21 @@
 -- The outcomes of a run that crosses to after a `/`, by the places that it can reach.
 use mathlib.Core.Path.{_≡_, refl, sym, ap, subst, _∙_}
 use mathlib.Core.Logic.{_⊎_, inl, inr, ⊎-elim}
-use mathlib.Core.Bool.{Bool, true, false, _&&_, _||_, or-true, false≢true}
+use mathlib.Core.Bool.{Bool, true, false, _&&_, or-true, false≢true}
 use mathlib.Core.List.{List, [], _∷_}
 use Prim.Native.Nat.{ℕ, zero, suc, _+_, _-_, _<_, _≤_}
 use native.Mathlib.Omega.{arith}
 use lib.Dec.{eqb}
-use lib.ListN.{length, take, drop, getD, length-drop}
+use lib.ListN.{length, drop, getD, length-drop}
 use lib.Seq.{drop-cons, drop-drop, getD-drop}
-use borrow.Author.Tests.{eqb-true, eq-eqb}
+use borrow.Author.Tests.{eqb-true}
 use Rattle.refusals.proofs.Order.{before-or-not}
 use Rattle.wildmatch.proofs.Parts.{from, from-drop, false-if-not, not-both, drop-on, getD-on}
 use Rattle.wildmatch.proofs.OutcomeLaws.{says-failed, says-near, run-at, at-run, far-run, matched-run}
 use Rattle.wildmatch.specs.Meaning.{and-both, or-either}
 use Rattle.wildmatch.specs.Test.{oneThen, runThen, tailMatches}
-use Rattle.wildmatch.specs.Outcomes.{to-slash, May, Never, skipped, Says, SaysRun, slashThen, NextSlash, FirstPlace}
+use Rattle.wildmatch.specs.Outcomes.{to-slash, May, Never, Says, SaysRun, slashThen, NextSlash, FirstPlace}
 use Rattle.wildmatch.specs.declared.Mode.{Mode}
-use Rattle.wildmatch.specs.declared.matcher.Outcome.{Outcome}
 use Rattle.wildmatch.specs.declared.matcher.Outcome.the-variants.{Matched, Failed, FailedNear, FailedFar}
 
 -- the run may end at place k of t: after a `/`, or at the start where `here`

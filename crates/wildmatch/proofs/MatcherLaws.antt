@@ -1,17 +1,16 @@
 -- The outcomes of the run at the front of a pattern, by the tests that the code makes.
 use mathlib.Core.Path.{_≡_, refl, sym, ap, subst, _∙_}
-use mathlib.Core.Logic.{_⊎_, inl, inr, ⊎-elim}
-use mathlib.Core.Bool.{Bool, true, false, not, false≢true}
+use mathlib.Core.Logic.{_⊎_, inl, inr}
+use mathlib.Core.Bool.{Bool, true, false, false≢true}
 use mathlib.Core.List.{List, [], _∷_}
 use Prim.Native.Nat.{ℕ, zero, suc, _+_, _-_, _<_, _≤_}
 use native.Mathlib.Omega.{arith}
 use lib.Dec.{eqb}
-use lib.ListN.{length, take, drop, getD, length-drop}
-use lib.Seq.{drop-drop}
+use lib.ListN.{length, drop, getD, length-drop}
 use Rattle.wildmatch.proofs.Parts.{from, from-drop, part-of}
 use Rattle.wildmatch.proofs.RunLaws.{stars-le, stars-some}
 use Rattle.wildmatch.proofs.TailLaws.{tail-near, tail-all, tail-slash, tail-escaped, crosses-ends, escaped-rest}
-use Rattle.wildmatch.proofs.OutcomeLaws.{says-same, says-after, matched-run, far-run, Near, near-begin, near-next, near-skip, near-end, near-stop, near-decides}
+use Rattle.wildmatch.proofs.OutcomeLaws.{says-same, says-after, matched-run, far-run, Near, near-next, near-skip, near-end, near-stop, near-decides}
 use Rattle.wildmatch.proofs.SkipLaws.{passed-fits}
 use Rattle.wildmatch.proofs.SegmentLaws.{first}
 use Rattle.wildmatch.specs.Patterns.{stars, startsSlash, crosses}

@@ -1,22 +1,19 @@
 -- What follows from an outcome, and the outcomes of runs by the places that they can reach.
-use mathlib.Core.Path.{_≡_, refl, sym, ap, subst, _∙_, fun-ext}
-use mathlib.Core.Logic.{_⊎_, inl, inr, ⊎-elim}
-use mathlib.Core.Bool.{Bool, true, false, cond, not, _&&_, _||_, or-true, false≢true}
+use mathlib.Core.Path.{_≡_, refl, sym, subst, fun-ext}
+use mathlib.Core.Logic.{_⊎_, inl, ⊎-elim}
+use mathlib.Core.Bool.{Bool, true, false, _&&_, or-true}
 use mathlib.Core.List.{List, [], _∷_}
 use Prim.Native.Nat.{ℕ, zero, suc, _+_, _-_, _<_, _≤_}
-use native.Mathlib.Numerals.{sub-one}
 use native.Mathlib.Omega.{arith}
-use lib.Dec.{eqb}
-use lib.ListN.{length, take, drop, getD, length-drop}
+use lib.ListN.{length, drop, getD, length-drop}
 use lib.Seq.{drop-drop, getD-drop}
 use borrow.Author.Count.{below-more}
-use borrow.Author.Tests.{eqb-true, eq-eqb}
 use Rattle.refusals.proofs.Order.{before-or-not}
 use Rattle.wildmatch.proofs.Parts.{from, from-drop, false-if-not, not-both, drop-on, getD-on}
 use Rattle.wildmatch.specs.Sharing.{inside}
 use Rattle.wildmatch.specs.Meaning.{and-both, or-either, run-here}
-use Rattle.wildmatch.specs.Test.{oneThen, runThen, tailMatches, matchesTest}
-use Rattle.wildmatch.specs.Outcomes.{Skip, nothing, near, to-slash, anything, May, Never, skipped, Says, SaysRun, nearThen, slashThen, NextSlash, Passed, Skipped}
+use Rattle.wildmatch.specs.Test.{runThen, tailMatches, matchesTest}
+use Rattle.wildmatch.specs.Outcomes.{Skip, nothing, near, to-slash, anything, May, Never, Says, SaysRun, nearThen, Passed, Skipped}
 use Rattle.wildmatch.specs.declared.Mode.{Mode}
 use Rattle.wildmatch.specs.declared.matcher.Outcome.{Outcome}
 use Rattle.wildmatch.specs.declared.matcher.Outcome.the-variants.{Matched, Failed, FailedNear, FailedFar}

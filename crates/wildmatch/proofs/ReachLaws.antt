@@ -1,10 +1,10 @@
 -- The item matcher's loop: the segment that is tried, and what its outcome says of the whole.
-use mathlib.Core.Path.{_≡_, refl, sym, ap, ap₂, subst, _∙_}
+use mathlib.Core.Path.{_≡_, refl, sym, ap, subst, _∙_}
 use mathlib.Core.Bool.{Bool, true, false, false≢true}
-use mathlib.Core.List.{List, [], _∷_}
+use mathlib.Core.List.{List}
 use Prim.Native.Nat.{ℕ, zero, suc, _+_, _-_, _*_, _<_, _≤_}
 use native.Mathlib.Omega.{arith}
-use lib.ListN.{length, drop, getD, length-drop}
+use lib.ListN.{length, drop, getD}
 use lib.Seq.{drop-drop}
 use Rattle.wildmatch.proofs.Parts.{from, from-drop, part-of, length-from, getD-from}
 use Rattle.wildmatch.proofs.SegmentLaws.{afterAt-drop}

@@ -1,19 +1,17 @@
 -- How the items of a pattern and those of its tail belong together.
-use mathlib.Core.Path.{_≡_, refl, sym, ap, subst, _∙_}
-use mathlib.Core.Logic.{_⊎_, inl, inr, ⊎-elim}
-use mathlib.Core.Bool.{Bool, true, false, cond, not, _&&_, _||_, and-false, false≢true}
+use mathlib.Core.Path.{_≡_, refl, sym, ap, subst}
+use mathlib.Core.Bool.{Bool, true, false, cond}
 use mathlib.Core.List.{List, [], _∷_}
 use mathlib.Core.Option.{Option, none, some}
-use Prim.Native.Nat.{ℕ, zero, suc, pred, _+_, _-_, _<_, _≤_}
-use native.Mathlib.Nat.{le-refl}
-use native.Mathlib.Numerals.{add-one, sub-one}
+use Prim.Native.Nat.{ℕ, zero, suc, _-_, _≤_}
+use native.Mathlib.Numerals.{sub-one}
 use native.Mathlib.Omega.{arith}
 use lib.Dec.{eqb}
-use lib.ListN.{length, take, drop, getD}
-use borrow.Author.Tests.{eqb-true, eq-eqb, ne-eqb}
+use lib.ListN.{length, drop, getD}
+use borrow.Author.Tests.{eqb-true}
 use Rattle.classes.specs.Members.{Class, readClass}
 use Rattle.classes.proofs.ClassLaws.{class-size}
-use Rattle.wildmatch.specs.Patterns.{Item, literal, any-byte, one-of, run, First, broken, item, stars, readRun, readEscaped, readBracket, readItem, andItem, itemsAfter, itemsFrom}
+use Rattle.wildmatch.specs.Patterns.{Item, literal, any-byte, one-of, run, First, broken, item, stars, readRun, readEscaped, readBracket, readItem, andItem, itemsFrom}
 use Rattle.wildmatch.specs.Outcomes.{afterAt}
 
 -- the item takes one byte

@@ -1,26 +1,25 @@
 -- The loop over items of one byte: what an outcome says after an item it says before it.
 use mathlib.Core.Path.{_≡_, refl, sym, ap, ap₂, subst, _∙_}
 use mathlib.Core.Logic.{_⊎_, inl, inr, ⊎-elim}
-use mathlib.Core.Bool.{Bool, true, false, cond, not, _&&_, _||_, and-false, false≢true}
+use mathlib.Core.Bool.{Bool, true, false, cond, not, _&&_, false≢true}
 use mathlib.Core.List.{List, [], _∷_}
 use Prim.Native.Nat.{ℕ, zero, suc, _+_, _-_, _<_, _≤_}
 use native.Mathlib.Omega.{arith}
 use lib.Dec.{eqb}
-use lib.ListN.{length, take, drop, getD, length-drop, drop-of-length-le}
+use lib.ListN.{length, drop, getD, length-drop, drop-of-length-le}
 use lib.Seq.{drop-cons, drop-drop, getD-drop}
-use borrow.Author.Tests.{eqb-true, eqb-false, eq-eqb, ne-eqb, not-true, not-false}
+use borrow.Author.Tests.{eqb-true, not-true}
 use Rattle.classes.specs.Letters.{folded}
-use Rattle.classes.specs.Members.{accepted}
 use Rattle.classes.proofs.LetterLaws.{folded-slash, folded-same}
 use Rattle.refusals.proofs.Order.{before-or-not}
-use Rattle.wildmatch.proofs.Parts.{from, from-drop, false-if-not, not-both}
+use Rattle.wildmatch.proofs.Parts.{from, from-drop}
 use Rattle.wildmatch.proofs.ReadLaws.{single, endsSlash, Sized, item-sized}
 use Rattle.wildmatch.proofs.TailLaws.{One, item-one, tail-one, tail-broken, tail-nil}
 use Rattle.wildmatch.specs.Meaning.{and-both}
 use Rattle.wildmatch.specs.Patterns.{Item, literal, any-byte, one-of, run, First, broken, item, readItem}
 use Rattle.wildmatch.specs.Sharing.{inside, accepts}
-use Rattle.wildmatch.specs.Test.{oneThen, tailMatches, isEmpty}
-use Rattle.wildmatch.specs.Outcomes.{taken, takenBy, afterAt, near, to-slash, May, Never, skipped, Says, Stops}
+use Rattle.wildmatch.specs.Test.{oneThen, tailMatches}
+use Rattle.wildmatch.specs.Outcomes.{taken, takenBy, afterAt, May, Never, skipped, Says, Stops}
 use Rattle.wildmatch.specs.declared.Mode.{Mode}
 use Rattle.wildmatch.specs.declared.matcher.Outcome.{Outcome}
 use Rattle.wildmatch.specs.declared.matcher.Outcome.the-variants.{Matched, Failed, FailedNear, FailedFar}

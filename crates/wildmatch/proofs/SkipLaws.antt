@@ -1,9 +1,9 @@
 -- The places that a run within a component passes over.
-use mathlib.Core.Path.{_≡_, refl, sym, ap, subst, _∙_}
+use mathlib.Core.Path.{_≡_, refl, sym, ap, _∙_}
 use mathlib.Core.Logic.{⊎-elim}
-use mathlib.Core.Bool.{Bool, true, false, _&&_}
+use mathlib.Core.Bool.{true, false}
 use mathlib.Core.List.{List, [], _∷_}
-use Prim.Native.Nat.{ℕ, suc, _+_, _<_, _≤_}
+use Prim.Native.Nat.{ℕ, _+_, _<_, _≤_}
 use native.Mathlib.Omega.{arith}
 use lib.Dec.{eqb}
 use lib.ListN.{length, drop, getD, length-drop}
@@ -16,7 +16,6 @@ use Rattle.wildmatch.proofs.SegmentLaws.{first, mismatch}
 use Rattle.refusals.proofs.Order.{before-or-not}
 use Rattle.wildmatch.specs.Patterns.{literal}
 use Rattle.wildmatch.specs.Sharing.{inside, accepts}
-use Rattle.wildmatch.specs.Test.{oneThen, isEmpty, tailMatches}
 use Rattle.wildmatch.specs.Outcomes.{isLiteral, taken, Passed, Skipped}
 use Rattle.wildmatch.specs.declared.Mode.{Mode}
 

@@ -1,24 +1,22 @@
 -- What is left of a pattern, by its first item.
 use mathlib.Core.Path.{_≡_, refl, sym, ap, ap₂, subst, _∙_, fun-ext}
-use mathlib.Core.Logic.{_⊎_, inl, inr, ⊎-elim}
-use mathlib.Core.Bool.{Bool, true, false, cond, not, _&&_, _||_, and-false, or-false, or-comm, false≢true}
+use mathlib.Core.Logic.{_⊎_, inl, inr}
+use mathlib.Core.Bool.{Bool, true, false, _&&_, _||_, and-false, or-false, or-comm, false≢true}
 use mathlib.Core.List.{List, [], _∷_}
 use mathlib.Core.Option.{Option, none, some}
-use Prim.Native.Nat.{ℕ, zero, suc, _+_, _-_, _<_, _≤_}
+use Prim.Native.Nat.{ℕ, _-_, _<_}
 use native.Mathlib.Omega.{arith}
 use lib.Dec.{eqb}
-use lib.ListN.{length, take, drop, getD, length-drop}
-use lib.Seq.{drop-drop}
-use borrow.Author.Tests.{eqb-true, eq-eqb, ne-eqb}
+use lib.ListN.{length, drop, getD}
+use borrow.Author.Tests.{eqb-true, ne-eqb}
 use Rattle.classes.specs.Members.{Class, readClass}
 use Rattle.classes.proofs.LetterLaws.{folded-slash}
 use Rattle.wildmatch.proofs.ReadLaws.{single, Sized, item-sized, by-cases, items-step}
-use Rattle.wildmatch.proofs.RunLaws.{stars-some, stars-le}
 use Rattle.wildmatch.specs.Patterns.{Reach, within, crossing, crossing-slash, Item, literal, any-byte, one-of, run, First, broken, item, stars, startsSlash, componentEnds, crosses, reachOf, readRun, readEscaped, readBracket, readItem, andItem, itemsFrom}
 use Rattle.wildmatch.specs.Sharing.{inside, accepts}
 use Rattle.wildmatch.specs.Meaning.{and-both}
 use Rattle.wildmatch.specs.Test.{oneThen, runThen, passes, itemThen, vanish, isEmpty, sharesTest, sharesOf, tailMatches}
-use Rattle.wildmatch.specs.Outcomes.{taken, takenBy, afterAt, nearThen, slashThen}
+use Rattle.wildmatch.specs.Outcomes.{afterAt, nearThen, slashThen}
 use Rattle.wildmatch.specs.declared.Mode.{Mode}
 
 -- nothing matches where nothing follows

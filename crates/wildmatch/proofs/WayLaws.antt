@@ -1,16 +1,15 @@
 -- What the run at the front of a pattern leaves to be matched, by the tests that the code makes.
-use mathlib.Core.Path.{_≡_, refl, sym, ap, subst, _∙_}
+use mathlib.Core.Path.{_≡_, sym, ap, subst, _∙_}
 use mathlib.Core.Bool.{Bool, true, false}
 use mathlib.Core.List.{List, [], _∷_}
-use Prim.Native.Nat.{ℕ, _+_, _<_, _≤_}
+use Prim.Native.Nat.{ℕ, _+_, _<_}
 use native.Mathlib.Omega.{arith}
-use lib.ListN.{length, drop, getD, length-drop}
+use lib.ListN.{length, drop, getD}
 use borrow.Author.Tests.{eq-eqb}
 use Rattle.wildmatch.proofs.Parts.{from, from-drop, part-of, length-from}
 use Rattle.wildmatch.proofs.ReadLaws.{stars-last}
 use Rattle.wildmatch.proofs.MatcherLaws.{run-fits, run-plain, run-within, run-whole, run-slash, run-escaped, escaped-long, slash-long}
 use Rattle.wildmatch.specs.Patterns.{stars, startsSlash, crosses}
-use Rattle.wildmatch.specs.Test.{tailMatches}
 use Rattle.wildmatch.specs.Outcomes.{afterAt, SaysRun, nearThen, slashThen, Leads}
 use Rattle.wildmatch.specs.declared.Mode.{Mode}
 use Rattle.wildmatch.specs.declared.way.Way.the-variants.{Within, All, ToSlash}

@@ -1,14 +1,14 @@
 -- The test of specs/Test.antt says true exactly where the pattern matches as specs/Sharing.antt has it.
 use Prim.Native.Nat.{ℕ}
-use mathlib.Core.Path.{_≡_, refl, sym, ap, subst, _∙_}
+use mathlib.Core.Path.{_≡_, refl, sym, ap, subst}
 use mathlib.Core.Logic.{_⊎_, inl, inr, ⊎-elim, _↔_}
 use mathlib.Core.Bool.{Bool, true, false, _&&_, _||_, false≢true, or-true}
 use mathlib.Core.List.{List, [], _∷_, _++_}
 use mathlib.Core.Option.{Option, none, some}
 use lib.Dec.{eqb}
 use borrow.Author.Tests.{eqb-true}
-use Rattle.wildmatch.specs.Patterns.{Reach, within, crossing, crossing-slash, Item, literal, any-byte, one-of, run, items}
-use Rattle.wildmatch.specs.Sharing.{inside, accepts, Each, TakesOne, Takes, Shares, none-left, shared, vanished, Matches}
+use Rattle.wildmatch.specs.Patterns.{within, crossing, crossing-slash, Item, literal, any-byte, one-of, run, items}
+use Rattle.wildmatch.specs.Sharing.{accepts, Each, TakesOne, Takes, Shares, none-left, shared, vanished, Matches}
 use Rattle.wildmatch.specs.Test.{oneThen, runThen, passes, itemThen, vanish, isEmpty, sharesTest, sharesOf, tailMatches, matchesTest}
 use Rattle.wildmatch.specs.declared.Mode.{Mode}
 

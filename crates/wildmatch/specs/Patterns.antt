@@ -1,5 +1,5 @@
 -- Document 01, "Patterns": "A pattern is read left to right into items".
-use Prim.Native.Nat.{ℕ, zero, suc, pred, _+_}
+use Prim.Native.Nat.{ℕ, zero, suc, pred}
 use mathlib.Core.Bool.{Bool, true, false, cond, _&&_, _||_}
 use mathlib.Core.List.{List, [], _∷_}
 use mathlib.Core.Option.{Option, none, some}
@@ -13,6 +13,7 @@ pub data Reach : Type 0 where
   crossing : Reach
   crossing-slash : Reach
 
+-- an item: a literal byte, `?`, a class, or a star run
 pub data Item : Type 0 where
   literal : ℕ → Item
   any-byte : Item
@@ -44,6 +45,7 @@ componentEnds (x ∷ p) = eqb x 47 || eqb x 92 && startsSlash p
 unfoldable pub crosses : Bool → ℕ → List ℕ → Bool
 crosses after n p = after && (eqb n 2 && componentEnds p)
 
+-- how far a run of n stars reaches, with p after it. "Three or more stars count as one star."
 unfoldable pub reachOf : Bool → ℕ → List ℕ → Reach
 reachOf after n p = cond (crosses after n p) (cond (startsSlash p) crossing-slash crossing) within
 
@@ -56,6 +58,7 @@ abbrev pub readEscaped : List ℕ → First
 readEscaped [] = broken
 readEscaped (y ∷ p) = item (literal y) 2
 
+-- the item that a `[` begins, by the class after it
 unfoldable pub readBracket : Option Class → First
 readBracket none = broken
 readBracket (some c) = item (one-of c) (suc (c .size))
@@ -69,10 +72,12 @@ readItem after x p =
     (cond (eqb x 91) (readBracket (readClass p))
     (item (literal x) 1))))
 
+-- one item more; a broken rest stays broken
 abbrev pub andItem : Item → Option (List Item) → Option (List Item)
 andItem it none = none
 andItem it (some its) = some (it ∷ its)
 
+-- the first item and then the items after its n bytes, of which the first byte is passed already
 abbrev pub itemsAfter : First → (ℕ → Option (List Item)) → Option (List Item)
 itemsAfter broken rest = none
 itemsAfter (item it n) rest = andItem it (rest (pred n))

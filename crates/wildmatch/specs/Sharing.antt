@@ -3,18 +3,18 @@ use Prim.Native.Nat.{ℕ}
 use mathlib.Core.Path.{_≡_}
 use mathlib.Core.Bool.{Bool, true, false, not, _&&_}
 use mathlib.Core.List.{List, [], _∷_, _++_}
-use mathlib.Core.Option.{Option, none, some}
+use mathlib.Core.Option.{some}
 use lib.Dec.{eqb}
 use Rattle.classes.specs.Letters.{folded}
 use Rattle.classes.specs.Members.{accepted}
-use Rattle.wildmatch.specs.Patterns.{Reach, within, crossing, crossing-slash, Item, literal, any-byte, one-of, run, items}
+use Rattle.wildmatch.specs.Patterns.{within, crossing, crossing-slash, Item, literal, any-byte, one-of, run, items}
 use Rattle.wildmatch.specs.declared.Mode.{Mode}
 
 -- "in path mode not `/`", "any bytes but `/`", "In path mode no class takes `/`"
 unfoldable pub inside : Mode → ℕ → Bool
 inside m x = not (m .path && eqb x 47)
 
--- an item of one byte accepts x. "Folding case: a literal, or the list in a class before "not", accepts a byte if it accepts its
+-- an item of one byte accepts x. "`?` takes one byte". "Folding case: a literal, or the list in a class before "not", accepts a byte if it accepts its
 -- lower or its upper ASCII form."
 unfoldable pub accepts : Mode → Item → ℕ → Bool
 accepts m (literal c) x = folded (m .fold) (λ y. eqb y c) x
@@ -41,7 +41,8 @@ Takes m (run within) w = Each (inside m) w
 Takes m (run crossing) w = Unit {0}
 Takes m (run crossing-slash) w = Unit {0}
 
--- "the text is the joining, in order, of what its items may take"
+-- "the text is the joining, in order, of what its items may take". "What follows a crossing run is matched by these same rules": the
+-- items after any item share the rest in the same way
 pub data Shares (m : Mode) : List Item → List ℕ → Type 0 where
   -- no items take nothing
   none-left : Shares m [] []

@@ -2,7 +2,6 @@
 use Rattle.wildmatch.proofs.AnswerLaws.{decides}
 use Rattle.wildmatch.proofs.OutcomeLaws.{matched, says-answer}
 use mathlib.Core.Path.{_∙_, sym, ap}
-use mathlib.Core.Bool.{false≢true}
 use borrow.Author.Needs.{needs}
 use Rattle.wildmatch.proofs.answer.matches.Statement.{statement}
 use Rattle.wildmatch.proofs.answer.matches.Tie as tie

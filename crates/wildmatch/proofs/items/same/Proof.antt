@@ -1,6 +1,5 @@
 -- `wildmatch::items::same` meets its contract: folding asks with the lower, then the upper form.
 use Rattle.wildmatch.proofs.ItemLaws.{same-folded, same-upper, same-plain}
-use Rattle.classes.specs.Letters.{folded}
 use borrow.Author.Needs.{needs}
 use Rattle.wildmatch.proofs.items.same.Statement.{statement}
 use Rattle.wildmatch.proofs.items.same.Tie as tie
