@@ -146,3 +146,14 @@ module _ (a : List ℕ) (k v w : ℕ) (s : NotBefore a k) (b : Bytes a) (e : v �
 pub which-end : (a : List ℕ) (k : ℕ) → NotBefore a k → k ≡ 12 → 12 ≡ whichName a
 unfolding names
 which-end a k s e = let z : placeIn a (drop k names) ≡ 0 = rw e refl in omega arith
+
+-- five bytes, written out
+pub word-five : (s : List ℕ) → length s ≡ 5 → ((((256 + getD s 4 0) * 256 + getD s 3 0) * 256 + getD s 2 0) * 256 + getD s 1 0) * 256 + getD s 0 0 ≡ wordOf s
+unfolding wordOf packed
+word-five [] h = absurd (omega arith)
+word-five (a ∷ []) h = absurd (omega arith)
+word-five (a ∷ b ∷ []) h = absurd (omega arith)
+word-five (a ∷ b ∷ c ∷ []) h = absurd (omega arith)
+word-five (a ∷ b ∷ c ∷ d ∷ []) h = absurd (omega arith)
+word-five (a ∷ b ∷ c ∷ d ∷ e ∷ []) h = refl
+word-five (a ∷ b ∷ c ∷ d ∷ e ∷ f ∷ s) h = absurd (omega arith)

@@ -68,7 +68,7 @@ fn next_at(q: &[u8], i: usize, plain: usize) -> Next
     requires { ⌜ (i < length (now q)) × PlainTo (now q) i plain ⌝ }
     ensures { λ r. ⌜ r ≡ nextMember (eqb i 0) (drop i (now (q .entry))) ⌝ }
 {
-    if i + 2 <= plain && q[i] == 91 && q[i + 1] == 58 {
+    if q[i] == 91 && i + 2 <= plain && q[i + 1] == 58 {
         return Next::Plain(plain - i - 2);
     }
     next_member(&q[i..], i == 0)

@@ -1,7 +1,7 @@
 // The twelve class names and the bytes that each lists, in two constant tables with a number for each name.
 ghost use mathlib.Core.Path.{_≡_};
 ghost use Prim.Native.Nat.{_<_};
-ghost use lib.ListN.{getD};
+ghost use lib.ListN.{length, getD};
 ghost use Rattle.classes.specs.Names.{named, whichName};
 ghost use Rattle.classes.specs.Tables.{rangeRows, wordOf, nameWords};
 
@@ -85,8 +85,21 @@ fn wide(x: u8) -> u64
     x as u64
 }
 
-// The bytes of `name` as one number, as `name_word` holds them, and 0 where they are too many.
-fn word_of(name: &[u8]) -> u64
+// The number of five bytes: all but one of the names have five letters.
+fn word_of_five(name: &[u8]) -> u64
+    requires { ⌜ length (now name) ≡ 5 ⌝ }
+    ensures { λ r. ⌜ r ≡ wordOf (now (name .entry)) ⌝ }
+{
+    let a = wide(name[0]);
+    let b = wide(name[1]);
+    let c = wide(name[2]);
+    let d = wide(name[3]);
+    let e = wide(name[4]);
+    ((((256 + e) * 256 + d) * 256 + c) * 256 + b) * 256 + a
+}
+
+// The number of any bytes, and 0 where they are too many.
+fn word_of_any(name: &[u8]) -> u64
     ensures { λ r. ⌜ r ≡ wordOf (now (name .entry)) ⌝ }
 {
     let mut i = name.len();
@@ -99,6 +112,16 @@ fn word_of(name: &[u8]) -> u64
         word = word * 256 + wide(name[i]);
     }
     word
+}
+
+// The bytes of `name` as one number, as `name_word` holds them.
+fn word_of(name: &[u8]) -> u64
+    ensures { λ r. ⌜ r ≡ wordOf (now (name .entry)) ⌝ }
+{
+    if name.len() == 5 {
+        return word_of_five(name);
+    }
+    word_of_any(name)
 }
 
 // Which of the twelve names it is, or 12.

@@ -1,4 +1,4 @@
--- `classes::names::word_of` meets its contract: the bytes from the i-th on are packed.
+-- `classes::names::word_of_any` meets its contract: the bytes from the i-th on are packed.
 use mathlib.Core.Path.{_≡_, ap, _∙_}
 use Prim.Native.Nat.{ℕ, _+_, _*_, _≤_}
 use native.Mathlib.Omega.{arith}
@@ -6,8 +6,8 @@ use lib.ListN.{length, drop}
 use borrow.Author.Needs.{needs}
 use Rattle.classes.specs.Tables.{packed}
 use Rattle.classes.proofs.WordLaws.{word-end, word-more, word-fits, word-long, word-whole}
-use Rattle.classes.proofs.names.word_of.Statement.{statement}
-use Rattle.classes.proofs.names.word_of.Tie as tie
+use Rattle.classes.proofs.names.word_of_any.Statement.{statement}
+use Rattle.classes.proofs.names.word_of_any.Tie as tie
 
 abbrev Inv-loop : tie.InvT-loop
 Inv-loop name i₀ word₀ i word = (i ≤ length name) × (word ≡ packed (drop i name))
@@ -55,8 +55,8 @@ loop-again c = (
 returns-2 : tie.Need-returns-2 Inv-loop μ-loop
 returns-2 c = word-whole _ _ _ (c .before .before .if1 .left) (c .loop-test .left) (c .before .loop .inv .1)
 
-pub word-of-spec : {M : Type 1} → statement M
-word-of-spec =
+pub word-of-any-spec : {M : Type 1} → statement M
+word-of-any-spec =
     tie.close
     (tie.spec
     Inv-loop
