@@ -130,9 +130,9 @@ plain-passes m within x h = refl
 plain-passes m crossing x h = rw h refl
 plain-passes m crossing-slash x h = rw h refl
 
-reach-within : (after : Bool) (n : ℕ) (p : List ℕ) → crosses after n p ≡ false → reachOf after n p ≡ within
+read-within : (after : Bool) (n : ℕ) (p : List ℕ) → crosses after n p ≡ false → reachOf after n p ≡ within
 unfolding reachOf
-reach-within after n p h = rw h refl
+read-within after n p h = rw h refl
 
 within-not-slash : within ≡ crossing-slash → ⊥
 within-not-slash e = let z : _≡_ {A = ℕ} 0 1 = cc in omega arith
@@ -148,31 +148,31 @@ tail-near m after p t l e (inl h) =
     let r = reachOf after (stars p) (drop (stars p) p) in
     run-step m after p r t l e refl (run-stays m r (inl h))
     ∙ run-same (passes m r) (inside m) (tailMatches m false (drop (stars p) p)) (tailMatches m false (drop (stars p) p)) (λ x. plain-passes m r x h) (λ u. refl) t
-tail-near m after p t l e (inr h) = run-step m after p within t l e (reach-within after (stars p) (drop (stars p) p) h) (run-stays m within (inr within-not-slash))
+tail-near m after p t l e (inr h) = run-step m after p within t l e (read-within after (stars p) (drop (stars p) p) h) (run-stays m within (inr within-not-slash))
 
-run-whole : (t : List ℕ) → runThen (λ x. true) isEmpty t ≡ true
-run-whole [] = refl
-run-whole (x ∷ t) = run-whole t
+run-takes-all : (t : List ℕ) → runThen (λ x. true) isEmpty t ≡ true
+run-takes-all [] = refl
+run-takes-all (x ∷ t) = run-takes-all t
 
-reach-crossing : (after : Bool) (n : ℕ) (p : List ℕ) → crosses after n p ≡ true → startsSlash p ≡ false → reachOf after n p ≡ crossing
+read-crossing : (after : Bool) (n : ℕ) (p : List ℕ) → crosses after n p ≡ true → startsSlash p ≡ false → reachOf after n p ≡ crossing
 unfolding reachOf
-reach-crossing after n p h s = rw (h, s) refl
+read-crossing after n p h s = rw (h, s) refl
 
-reach-slash : (after : Bool) (n : ℕ) (p : List ℕ) → crosses after n p ≡ true → startsSlash p ≡ true → reachOf after n p ≡ crossing-slash
+read-slash : (after : Bool) (n : ℕ) (p : List ℕ) → crosses after n p ≡ true → startsSlash p ≡ true → reachOf after n p ≡ crossing-slash
 unfolding reachOf
-reach-slash after n p h s = rw (h, s) refl
+read-slash after n p h s = rw (h, s) refl
 
 -- a crossing run at the end takes all
 pub tail-all : (m : Mode) (after : Bool) (p : List ℕ) (t : List ℕ) → 0 < length p → getD p 0 0 ≡ 42 → crosses after (stars p) (drop (stars p) p) ≡ true → drop (stars p) p ≡ []
     → tailMatches m after p t ≡ true
 unfolding startsSlash
 tail-all m after p t l e h q =
-    run-step m after p crossing t l e (reach-crossing after (stars p) (drop (stars p) p) h (rw q refl)) (run-stays m crossing (inr crossing-not-slash))
-    ∙ rw q (run-same (λ x. true) (λ x. true) (tailMatches m false []) isEmpty (λ x. refl) (λ u. tail-nil m false u) t ∙ run-whole t)
+    run-step m after p crossing t l e (read-crossing after (stars p) (drop (stars p) p) h (rw q refl)) (run-stays m crossing (inr crossing-not-slash))
+    ∙ rw q (run-same (λ x. true) (λ x. true) (tailMatches m false []) isEmpty (λ x. refl) (λ u. tail-nil m false u) t ∙ run-takes-all t)
 
-accepts-slash : (m : Mode) (x : ℕ) → accepts m (literal 47) x ≡ eqb x 47
+slash-accepts : (m : Mode) (x : ℕ) → accepts m (literal 47) x ≡ eqb x 47
 unfolding accepts
-accepts-slash m x = folded-slash (m .fold) x
+slash-accepts m x = folded-slash (m .fold) x
 
 one-same : (a b : ℕ → Bool) (f g : List ℕ → Bool) → ((x : ℕ) → a x ≡ b x) → ((t : List ℕ) → f t ≡ g t) → (t : List ℕ) → oneThen a f t ≡ oneThen b g t
 one-same a b f g h k t = ap₂ (λ c d. oneThen c d t) (fun-ext h) (fun-ext k)
@@ -182,7 +182,7 @@ slash-step : (m : Mode) (after : Bool) (x : ℕ) (q : List ℕ) (n : ℕ) (u : L
     → tailMatches m after (x ∷ q) u ≡ oneThen (λ y. eqb y 47) (tailMatches m true (drop n (x ∷ q))) u
 slash-step m after x q n u e h =
     tail-one m after x q (literal 47) n u e refl
-    ∙ one-same (accepts m (literal 47)) (λ y. eqb y 47) (tailMatches m (afterAt after (x ∷ q) n) (drop n (x ∷ q))) (tailMatches m true (drop n (x ∷ q))) (accepts-slash m) (λ w. ap (λ (b : Bool). tailMatches m b (drop n (x ∷ q)) w) h) u
+    ∙ one-same (accepts m (literal 47)) (λ y. eqb y 47) (tailMatches m (afterAt after (x ∷ q) n) (drop n (x ∷ q))) (tailMatches m true (drop n (x ∷ q))) (slash-accepts m) (λ w. ap (λ (b : Bool). tailMatches m b (drop n (x ∷ q)) w) h) u
 
 -- what follows a crossing run is the end, `/` or `\/`
 pub escaped-rest : (q : List ℕ) → componentEnds q ≡ true → startsSlash q ≡ false → (length q ≡ 0 → ⊥) → (s : List ℕ) × (q ≡ 92 ∷ 47 ∷ s)
@@ -210,7 +210,7 @@ pub tail-escaped : (m : Mode) (after : Bool) (p : List ℕ) (t : List ℕ) → 0
     → (length (drop (stars p) p) ≡ 0 → ⊥) → tailMatches m after p t ≡ slashThen m false (drop 2 (drop (stars p) p)) t
 unfolding slashThen
 tail-escaped m after p t l e h s n =
-    run-step m after p crossing t l e (reach-crossing after (stars p) (drop (stars p) p) h s) (run-stays m crossing (inr crossing-not-slash))
+    run-step m after p crossing t l e (read-crossing after (stars p) (drop (stars p) p) h s) (run-stays m crossing (inr crossing-not-slash))
     ∙ go (drop (stars p) p) (escaped-rest (drop (stars p) p) (crosses-ends after (stars p) (drop (stars p) p) h .1) s n)
   where
     go : (q : List ℕ) → (s : List ℕ) × (q ≡ 92 ∷ 47 ∷ s) → runThen (λ x. true) (tailMatches m false q) t ≡ runThen (λ x. true) (oneThen (λ x. eqb x 47) (tailMatches m true (drop 2 q))) t
@@ -225,7 +225,7 @@ vanish-step m (some its) t h =
     ∙ or-comm (runThen (λ x. true) (sharesTest m (literal 47 ∷ its)) t) (sharesTest m its t)
     ∙ ap (λ (b : Bool). sharesTest m its t || b)
     (run-same (λ x. true) (λ x. true) (sharesTest m (literal 47 ∷ its)) (oneThen (λ x. eqb x 47) (sharesTest m its)) (λ x. refl)
-    (λ u. step-of m (literal 47) (some its) u (λ jt. refl) ∙ one-same (accepts m (literal 47)) (λ x. eqb x 47) (sharesTest m its) (sharesTest m its) (accepts-slash m) (λ w. refl) u) t)
+    (λ u. step-of m (literal 47) (some its) u (λ jt. refl) ∙ one-same (accepts m (literal 47)) (λ x. eqb x 47) (sharesTest m its) (sharesTest m its) (slash-accepts m) (λ w. refl) u) t)
 
 slash-items : (s : List ℕ) → itemsFrom (47 ∷ s) 0 false ≡ andItem (literal 47) (itemsFrom s 0 true)
 unfolding readItem afterAt
@@ -236,7 +236,7 @@ pub tail-slash : (m : Mode) (after : Bool) (p : List ℕ) (t : List ℕ) → m .
 unfolding slashThen tailMatches
 tail-slash m after [] t c l e h s = absurd (omega arith)
 tail-slash m after (x ∷ p) t c l e h s =
-    let k = read-star after x p e ∙ ap (λ (r : Reach). item (run r) (stars (x ∷ p))) (reach-slash after (stars (x ∷ p)) (drop (stars (x ∷ p)) (x ∷ p)) h s) in
+    let k = read-star after x p e ∙ ap (λ (r : Reach). item (run r) (stars (x ∷ p))) (read-slash after (stars (x ∷ p)) (drop (stars (x ∷ p)) (x ∷ p)) h s) in
     let b = subst (Sized after (x ∷ p)) k (item-sized after x p) .2 in
     let q = slash-rest (drop (stars (x ∷ p)) (x ∷ p)) s in
     ap (λ o. sharesOf m o t) (items-step after x p (run crossing-slash) (stars (x ∷ p)) k ∙ ap₂ (λ l f. andItem (run crossing-slash) (itemsFrom l 0 f)) (q .1) b ∙ ap (andItem (run crossing-slash)) (slash-items (q .0)))
