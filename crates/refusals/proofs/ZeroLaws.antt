@@ -8,7 +8,7 @@ use native.Mathlib.Omega.{arith}
 use lib.ListN.{length, getD}
 use borrow.Author.Count.{below-more}
 use Rattle.refusals.proofs.Order.{before-or-not}
-use Rattle.refusals.specs.Refusals.{ZeroIn}
+use Rattle.refusals.specs.Places.{ZeroIn}
 
 pub zero-at : (s : List ℕ) (i : ℕ) → i < length s → getD s i 0 ≡ 0 → List·Memᴰ 0 s
 zero-at [] i h e = absurd (omega arith)

@@ -1,9 +1,9 @@
 -- Document 01, "When a question is turned away": each refusal's condition in the table's words, and "the lowest is answered".
-use Prim.Native.Nat.{ℕ, _<_, _≤_}
+use Prim.Native.Nat.{ℕ, _<_}
 use mathlib.Core.Path.{_≡_}
 use mathlib.Core.Logic.{_⊎_}
 use mathlib.Core.List.{List, List·Memᴰ}
-use lib.ListN.{length, getD}
+use lib.ListN.{length}
 use Rattle.refusals.specs.Limits.{patternLimit, textLimit, flagsLimit}
 
 -- 7: "pattern over 2,048 bytes or text over 4,096"
@@ -32,7 +32,3 @@ MatcherRefuses pattern text flags n =
     ((n ≡ 7) × TooLong pattern text)
     ⊎ (((n ≡ 8) × (HoldsZero pattern ⊎ HoldsZero text))
     ⊎ ((n ≡ 9) × FlagsHigh flags))
-
--- inner: byte 0 stands from place i on and before place n
-unfoldable pub ZeroIn : List ℕ → ℕ → ℕ → Type 0
-ZeroIn bytes i n = (k : ℕ) × (i ≤ k) × (k < n) × (getD bytes k 0 ≡ 0)

@@ -4,7 +4,8 @@ ghost use mathlib.Core.Logic.{_↔_};
 ghost use mathlib.Core.Bool.{true};
 ghost use Prim.Native.Nat.{_+_, _≤_};
 ghost use lib.ListN.{length};
-ghost use Rattle.refusals.specs.Refusals.{TooLong, HoldsZero, FlagsHigh, ZeroIn};
+ghost use Rattle.refusals.specs.Refusals.{TooLong, HoldsZero, FlagsHigh};
+ghost use Rattle.refusals.specs.Places.{ZeroIn};
 
 const PATTERN_LIMIT: usize = 2048;
 

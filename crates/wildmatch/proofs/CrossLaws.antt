@@ -12,7 +12,8 @@ use borrow.Author.Tests.{eqb-true}
 use Rattle.refusals.proofs.Order.{before-or-not}
 use Rattle.wildmatch.proofs.Parts.{from, from-drop, false-if-not, not-both, drop-on, getD-on}
 use Rattle.wildmatch.proofs.OutcomeLaws.{says-failed, says-near, run-at, at-run, far-run, matched-run}
-use Rattle.wildmatch.specs.Meaning.{and-both, or-either}
+use Rattle.classes.proofs.TableLaws.{and-split}
+use Rattle.wildmatch.specs.Meaning.{or-either}
 use Rattle.wildmatch.specs.Test.{oneThen, runThen, tailMatches}
 use Rattle.wildmatch.specs.Outcomes.{to-slash, May, Never, Says, SaysRun, slashThen, NextSlash, FirstPlace}
 use Rattle.wildmatch.specs.declared.Mode.{Mode}
@@ -24,13 +25,13 @@ Spot here t k = ((k ≡ 0) × (here ≡ true)) ⊎ ((1 ≤ k) × (getD t (k - 1)
 
 one-at : (a : ℕ → Bool) (f : List ℕ → Bool) (u : List ℕ) → oneThen a f u ≡ true → (1 ≤ length u) × (a (getD u 0 0) ≡ true) × (f (drop 1 u) ≡ true)
 one-at a f [] e = absurd (false≢true e)
-one-at a f (x ∷ u) e = let s = and-both (a x) (f u) e in (omega arith, s .0, s .1)
+one-at a f (x ∷ u) e = let s = and-split (a x) (f u) e in (omega arith, s .0, s .1)
 
 module _ (m : Mode) (here : Bool) (p t : List ℕ) where
   slash-at : slashThen m here p t ≡ true → (k : ℕ) × (k ≤ length t) × Spot here t k × (tailMatches m true p (drop k t) ≡ true)
   unfolding slashThen
   slash-at e =
-      ⊎-elim (λ h. let s = and-both here (tailMatches m true p t) h in (0, omega arith, inl (refl, s .0), s .1))
+      ⊎-elim (λ h. let s = and-split here (tailMatches m true p t) h in (0, omega arith, inl (refl, s .0), s .1))
       (λ h. let r = run-at (λ x. true) (oneThen (λ x. eqb x 47) (tailMatches m true p)) t h in
       let s = one-at (λ x. eqb x 47) (tailMatches m true p) (drop (r .0) t) (r .3) in
       let a : r .0 + 0 ≡ r .0 + 1 - 1 = omega arith in

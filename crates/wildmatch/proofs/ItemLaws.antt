@@ -16,7 +16,7 @@ use Rattle.classes.specs.declared.class.Tested.the-variants.{Bad, Read}
 use Rattle.classes.proofs.ClassLaws.{class-size}
 use Rattle.wildmatch.proofs.Parts.{from, from-drop}
 use Rattle.wildmatch.specs.Patterns.{item, readItem, readRun, readBracket, literal}
-use Rattle.wildmatch.specs.Meaning.{and-both}
+use Rattle.classes.proofs.TableLaws.{and-split}
 use Rattle.wildmatch.specs.Sharing.{inside, accepts}
 use Rattle.wildmatch.specs.Outcomes.{isLiteral, takenBy, taken}
 use Rattle.wildmatch.specs.declared.Mode.{Mode}
@@ -106,9 +106,9 @@ class-fits fold x q t s n e h = go (readClass q) refl (sym e ∙ h)
 pub literal-not : (c : ℕ) → isLiteral c ≡ true → (eqb c 42 ≡ false) × (eqb c 63 ≡ false) × (eqb c 91 ≡ false) × (eqb c 92 ≡ false)
 unfolding isLiteral
 literal-not c e =
-    let a = and-both (not (eqb c 42)) _ e in
-    let b = and-both (not (eqb c 63)) _ (a .1) in
-    let d = and-both (not (eqb c 91)) _ (b .1) in
+    let a = and-split (not (eqb c 42)) _ e in
+    let b = and-split (not (eqb c 63)) _ (a .1) in
+    let d = and-split (not (eqb c 91)) _ (b .1) in
     (not-true _ (a .0), not-true _ (b .0), not-true _ (d .0), not-true _ (d .1))
 
 -- a literal accepts the byte or not

@@ -15,7 +15,7 @@ use Rattle.refusals.proofs.Order.{before-or-not}
 use Rattle.wildmatch.proofs.Parts.{from, from-drop}
 use Rattle.wildmatch.proofs.ReadLaws.{single, endsSlash, Sized, item-sized}
 use Rattle.wildmatch.proofs.TailLaws.{One, item-one, tail-one, tail-broken, tail-nil}
-use Rattle.wildmatch.specs.Meaning.{and-both}
+use Rattle.classes.proofs.TableLaws.{and-split}
 use Rattle.wildmatch.specs.Patterns.{Item, literal, any-byte, one-of, run, First, broken, item, readItem}
 use Rattle.wildmatch.specs.Sharing.{inside, accepts}
 use Rattle.wildmatch.specs.Test.{oneThen, tailMatches}
@@ -34,7 +34,7 @@ accepts-inside : (m : Mode) (it : Item) (x y : ℕ) → inside m x ≡ true → 
 unfolding accepts inside
 accepts-inside m (literal c) x y i a b = literal-inside (m .path) (m .fold) c x y i a b
 accepts-inside m any-byte x y i a b = b
-accepts-inside m (one-of k) x y i a b = and-both (not (m .path && eqb y 47)) _ b .0
+accepts-inside m (one-of k) x y i a b = and-split (not (m .path && eqb y 47)) _ b .0
 accepts-inside m (run r) x y i a b = absurd (false≢true a)
 
 -- an item that ends in `/` accepts nothing else

@@ -14,7 +14,7 @@ use Rattle.classes.proofs.LetterLaws.{folded-slash}
 use Rattle.wildmatch.proofs.ReadLaws.{single, Sized, item-sized, by-cases, items-step}
 use Rattle.wildmatch.specs.Patterns.{Reach, within, crossing, crossing-slash, Item, literal, any-byte, one-of, run, First, broken, item, stars, startsSlash, componentEnds, crosses, reachOf, readRun, readEscaped, readBracket, readItem, andItem, itemsFrom}
 use Rattle.wildmatch.specs.Sharing.{inside, accepts}
-use Rattle.wildmatch.specs.Meaning.{and-both}
+use Rattle.classes.proofs.TableLaws.{and-split}
 use Rattle.wildmatch.specs.Test.{oneThen, runThen, passes, itemThen, vanish, isEmpty, sharesTest, sharesOf, tailMatches}
 use Rattle.wildmatch.specs.Outcomes.{afterAt, nearThen, slashThen}
 use Rattle.wildmatch.specs.declared.Mode.{Mode}
@@ -189,7 +189,7 @@ pub escaped-rest : (q : List ℕ) → componentEnds q ≡ true → startsSlash q
 unfolding componentEnds startsSlash
 escaped-rest [] h e n = absurd (n refl)
 escaped-rest (x ∷ []) h e n = absurd (false≢true (rw (e, and-false (eqb x 92)) at h))
-escaped-rest (x ∷ y ∷ q) h e n = let b = and-both (eqb x 92) (eqb y 47) (rw e at h) in (q, ap₂ (λ (a c : ℕ). a ∷ c ∷ q) (eqb-true x 92 (b .0)) (eqb-true y 47 (b .1)))
+escaped-rest (x ∷ y ∷ q) h e n = let b = and-split (eqb x 92) (eqb y 47) (rw e at h) in (q, ap₂ (λ (a c : ℕ). a ∷ c ∷ q) (eqb-true x 92 (b .0)) (eqb-true y 47 (b .1)))
 
 slash-rest : (q : List ℕ) → startsSlash q ≡ true → (s : List ℕ) × (q ≡ 47 ∷ s)
 unfolding startsSlash
@@ -198,7 +198,7 @@ slash-rest (x ∷ q) h = (q, ap (λ (a : ℕ). a ∷ q) (eqb-true x 47 h))
 
 pub crosses-ends : (after : Bool) (n : ℕ) (q : List ℕ) → crosses after n q ≡ true → (after ≡ true) × (componentEnds q ≡ true)
 unfolding crosses
-crosses-ends true n q h = (refl, and-both (eqb n 2) (componentEnds q) h .1)
+crosses-ends true n q h = (refl, and-split (eqb n 2) (componentEnds q) h .1)
 crosses-ends false n q h = absurd (false≢true h)
 
 escaped-step : (m : Mode) (s u : List ℕ) → tailMatches m false (92 ∷ 47 ∷ s) u ≡ oneThen (λ x. eqb x 47) (tailMatches m true s) u

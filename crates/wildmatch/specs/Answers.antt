@@ -26,8 +26,8 @@ pub record Decides (mode : Mode) (pattern text : List ℕ) (answer : Bool) : Typ
   pub means : (answer ≡ true) ↔ Matches mode pattern text
   pub test : answer ≡ matchesTest mode pattern text
 
--- Demand 1: "Each refusal in the table is given exactly when its condition holds, lowest number first, and returns that number only."; otherwise 01:
--- "it matches exactly when the text is the joining, in order, of what its items may take"
+-- Demand 1: "Each refusal in the table is given exactly when its condition holds, lowest number first, and returns that number only."
+-- Otherwise 01: "it matches exactly when the text is the joining, in order, of what its items may take"
 pub record Answered (pattern text : List ℕ) (flags : ℕ) (answer : Answer) : Type 0 where
   pub refused : (n : ℕ) → (answer ≡ Refused n) ↔ Lowest (MatcherRefuses pattern text flags) n
   pub matched : (answer ≡ Matched) ↔ (Accepted (MatcherRefuses pattern text flags) × Matches (modeOf flags) pattern text)

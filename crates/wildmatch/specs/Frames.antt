@@ -11,7 +11,8 @@ use Rattle.classes.specs.Members.{lists, accepted, single, untilClose, nameAt, 
 use Rattle.wildmatch.specs.Patterns.{stars, startsSlash, componentEnds, crosses, reachOf, readRun, readBracket, readItem, itemsFrom}
 use Rattle.wildmatch.specs.Sharing.{inside, accepts, Matches}
 use Rattle.wildmatch.specs.Test.{tailMatches, matchesTest}
-use Rattle.wildmatch.specs.Meaning.{and-both, test-decides}
+use Rattle.classes.proofs.TableLaws.{and-split}
+use Rattle.wildmatch.specs.Meaning.{test-decides}
 use Rattle.wildmatch.specs.declared.Mode.{Mode}
 
 -- a text, a pattern, and whether it matches in path mode, with folding, in plain mode, with folding
@@ -62,15 +63,15 @@ same true false e = sym e
 same false true e = e
 
 holds-by : (f : Frame) (path fold : Bool) → (agrees f true true && (agrees f true false && (agrees f false true && agrees f false false))) ≡ true → agrees f path fold ≡ true
-holds-by f true true e = and-both (agrees f true true) _ e .0
-holds-by f true false e = and-both (agrees f true false) _ (and-both (agrees f true true) _ e .1) .0
-holds-by f false true e = and-both (agrees f false true) _ (and-both (agrees f true false) _ (and-both (agrees f true true) _ e .1) .1) .0
-holds-by f false false e = and-both (agrees f false true) _ (and-both (agrees f true false) _ (and-both (agrees f true true) _ e .1) .1) .1
+holds-by f true true e = and-split (agrees f true true) _ e .0
+holds-by f true false e = and-split (agrees f true false) _ (and-split (agrees f true true) _ e .1) .0
+holds-by f false true e = and-split (agrees f false true) _ (and-split (agrees f true false) _ (and-split (agrees f true true) _ e .1) .1) .0
+holds-by f false false e = and-split (agrees f false true) _ (and-split (agrees f true false) _ (and-split (agrees f true true) _ e .1) .1) .1
 
 all-hold : (fs : List Frame) → allAgree fs ≡ true → AllHold fs
 all-hold [] e = tt
 all-hold (frame t p a b c d ∷ fs) e =
-    let h = and-both _ (allAgree fs) e in (
+    let h = and-split _ (allAgree fs) e in (
       λ m. let q = same _ _ (holds-by (frame t p a b c d) (m .path) (m .fold) (h .0)) in
           (λ s. test-decides m p t .0 (sym q ∙ s), λ w. q ∙ test-decides m p t .1 w),
       all-hold fs (h .1),

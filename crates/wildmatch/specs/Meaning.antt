@@ -7,14 +7,11 @@ use mathlib.Core.List.{List, [], _∷_, _++_}
 use mathlib.Core.Option.{Option, none, some}
 use lib.Dec.{eqb}
 use borrow.Author.Tests.{eqb-true}
+use Rattle.classes.proofs.TableLaws.{and-split}
 use Rattle.wildmatch.specs.Patterns.{within, crossing, crossing-slash, Item, literal, any-byte, one-of, run, items}
 use Rattle.wildmatch.specs.Sharing.{accepts, Each, TakesOne, Takes, Shares, none-left, shared, vanished, Matches}
 use Rattle.wildmatch.specs.Test.{oneThen, runThen, passes, itemThen, vanish, isEmpty, sharesTest, sharesOf, tailMatches, matchesTest}
 use Rattle.wildmatch.specs.declared.Mode.{Mode}
-
-pub and-both : (a b : Bool) → (a && b) ≡ true → (a ≡ true) × (b ≡ true)
-and-both true b e = (refl, e)
-and-both false b e = absurd (false≢true e)
 
 pub or-either : (a b : Bool) → (a || b) ≡ true → (a ≡ true) ⊎ (b ≡ true)
 or-either true b e = inl refl
@@ -30,7 +27,7 @@ Split P Q t = (w : List ℕ) × (u : List ℕ) × (t ≡ w ++ u) × P w × Q u
 module _ (m : Mode) where
   one-sound : (it : Item) (f : List ℕ → Bool) (t : List ℕ) → oneThen (accepts m it) f t ≡ true → Split (TakesOne m it) (λ u. f u ≡ true) t
   one-sound it f [] e = absurd (false≢true e)
-  one-sound it f (x ∷ t) e = let s = and-both (accepts m it x) (f t) e in (x ∷ [], t, refl, (x, refl, s .0), s .1)
+  one-sound it f (x ∷ t) e = let s = and-split (accepts m it x) (f t) e in (x ∷ [], t, refl, (x, refl, s .0), s .1)
 
   one-join : (it : Item) (f : List ℕ → Bool) (w u : List ℕ) → TakesOne m it w → f u ≡ true → oneThen (accepts m it) f (w ++ u) ≡ true
   one-join it f w u h q = rw (h .1, h .2) q
@@ -39,7 +36,7 @@ run-sound : (a : ℕ → Bool) (f : List ℕ → Bool) (t : List ℕ) → runThe
 run-sound a f [] e = ([], [], refl, tt, e)
 run-sound a f (x ∷ t) e =
     ⊎-elim (λ h. ([], x ∷ t, refl, tt, h))
-    (λ h. let s = and-both (a x) (runThen a f t) h in let r = run-sound a f t (s .1) in
+    (λ h. let s = and-split (a x) (runThen a f t) h in let r = run-sound a f t (s .1) in
     (x ∷ r .0, r .1, ap {B = List ℕ} (λ l. x ∷ l) (r .2), (s .0, r .3), r .4))
     (or-either (f (x ∷ t)) (a x && runThen a f t) e)
 
@@ -74,7 +71,7 @@ module _ (m : Mode) where
 
   vanish-sound : (it jt : Item) (its : List Item) (t : List ℕ) → vanish m it jt ≡ true → Shares m its t → Shares m (it ∷ jt ∷ its) t
   vanish-sound (run crossing-slash) (literal c) its t e s =
-      let b = and-both (m .path) (eqb c 47) e in
+      let b = and-split (m .path) (eqb c 47) e in
       subst (λ (k : ℕ). Shares m (run crossing-slash ∷ literal k ∷ its) t) (sym (eqb-true c 47 (b .1))) (vanished (b .0) s)
   vanish-sound (run crossing-slash) any-byte its t e s = absurd (false≢true e)
   vanish-sound (run crossing-slash) (one-of c) its t e s = absurd (false≢true e)
@@ -94,7 +91,7 @@ module _ (m : Mode) where
   sound (it ∷ []) t e = let s = item-sound it isEmpty t e in shared (s .0) (s .1) (s .2) (s .3) (empty-sound (s .1) (s .4))
   sound (it ∷ jt ∷ its) t e =
       ⊎-elim (λ h. let s = item-sound it (sharesTest m (jt ∷ its)) t h in shared (s .0) (s .1) (s .2) (s .3) (sound (jt ∷ its) (s .1) (s .4)))
-      (λ h. let s = and-both (vanish m it jt) (sharesTest m its t) h in vanish-sound it jt its t (s .0) (sound its t (s .1)))
+      (λ h. let s = and-split (vanish m it jt) (sharesTest m its t) h in vanish-sound it jt its t (s .0) (sound its t (s .1)))
       (or-either (itemThen m it (sharesTest m (jt ∷ its)) t) (vanish m it jt && sharesTest m its t) e)
 
   item-more : (it : Item) (its : List Item) (w u : List ℕ) → Takes m it w → sharesTest m its u ≡ true → sharesTest m (it ∷ its) (w ++ u) ≡ true

@@ -14,8 +14,8 @@ use Rattle.wildmatch.specs.declared.Mode.{Mode}
 unfoldable pub inside : Mode → ℕ → Bool
 inside m x = not (m .path && eqb x 47)
 
--- an item of one byte accepts x. "`?` takes one byte". "Folding case: a literal, or the list in a class before "not", accepts a byte if it accepts its
--- lower or its upper ASCII form."
+-- an item of one byte accepts x. "`?` takes one byte". "Folding case: a literal, or the list in a class before "not", accepts a byte
+-- if it accepts its lower or its upper ASCII form."
 unfoldable pub accepts : Mode → Item → ℕ → Bool
 accepts m (literal c) x = folded (m .fold) (λ y. eqb y c) x
 accepts m any-byte x = inside m x
