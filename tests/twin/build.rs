@@ -1,5 +1,5 @@
-//! Links the archive under test. Its folder is `FIDSHORE_ARCHIVE_DIR`, or the
-//! repository's `target/staticlib`.
+//! Links the archives that the features name. Their folder is
+//! `FIDSHORE_ARCHIVE_DIR`, or the repository's `target/staticlib`.
 use std::env;
 use std::path::PathBuf;
 
@@ -9,8 +9,12 @@ fn main() {
         None => PathBuf::from(env::var_os("CARGO_MANIFEST_DIR").unwrap()).join("../../target/staticlib"),
     };
     println!("cargo:rustc-link-search=native={}", dir.display());
-    println!("cargo:rustc-link-lib=static=fidshore");
     println!("cargo:rerun-if-env-changed=FIDSHORE_ARCHIVE_DIR");
-    // A new archive must be linked again.
-    println!("cargo:rerun-if-changed={}", dir.join("libfidshore.a").display());
+    for (feature, name) in [("CARGO_FEATURE_FIDSHORE", "fidshore"), ("CARGO_FEATURE_PROBER", "prober")] {
+        if env::var_os(feature).is_some() {
+            println!("cargo:rustc-link-lib=static={name}");
+            // A new archive must be linked again.
+            println!("cargo:rerun-if-changed={}", dir.join(format!("lib{name}.a")).display());
+        }
+    }
 }

@@ -1,5 +1,8 @@
 -- What a reader must believe:
 pub mod Limits
 pub mod Refusals
+pub mod Questions
 -- Inner definitions, which only the contracts of private functions cite:
 pub mod Places
+pub mod Scans
+pub mod Tests

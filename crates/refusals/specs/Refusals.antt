@@ -1,4 +1,4 @@
--- Document 01, "When a question is turned away": each refusal's condition in the table's words, and "the lowest is answered".
+-- Document 01, "When a question is turned away": the conditions of refusals 7 to 9 in the table's words, and "the lowest is answered". `Questions` has 1 to 6.
 use Prim.Native.Nat.{ℕ, _<_}
 use mathlib.Core.Path.{_≡_}
 use mathlib.Core.Logic.{_⊎_}
@@ -22,9 +22,14 @@ FlagsHigh flags = flagsLimit < flags
 unfoldable pub Lowest : (ℕ → Type 0) → ℕ → Type 0
 Lowest Condition n = Condition n × ((k : ℕ) → k < n → Condition k → ⊥)
 
--- no refusal's condition holds: the question is accepted
+-- "A question is accepted if no refusal in the table holds."
 unfoldable pub Accepted : (ℕ → Type 0) → Type 0
 Accepted Condition = (n : ℕ) → Condition n → ⊥
+
+-- what the tests of a call find: the lowest refusal, or 0 where the question is accepted
+pub record Found (Condition : ℕ → Type 0) (n : ℕ) : Type 0 where
+  pub lowest : (n ≡ 0 → ⊥) → Lowest Condition n
+  pub accepted : n ≡ 0 → Accepted Condition
 
 -- The refusals of the matcher: 7; 8, "byte 0 in pattern or text"; and 9.
 unfoldable pub MatcherRefuses : List ℕ → List ℕ → ℕ → ℕ → Type 0

@@ -1,4 +1,4 @@
-// The tests behind the refusals of document 01, each a leaf with its own contract.
+// The tests behind the refusals of document 01, each a leaf with its own contract, and the refusals of the two questions.
 ghost use mathlib.Core.Path.{_≡_};
 ghost use mathlib.Core.Logic.{_↔_};
 ghost use mathlib.Core.Bool.{true};
@@ -7,11 +7,31 @@ ghost use lib.ListN.{length};
 ghost use Rattle.refusals.specs.Refusals.{TooLong, HoldsZero, FlagsHigh};
 ghost use Rattle.refusals.specs.Places.{ZeroIn};
 
+pub mod lists;
+pub mod lowest;
+pub mod name;
+pub mod path;
+pub mod rules;
+
 const PATTERN_LIMIT: usize = 2048;
 
 const TEXT_LIMIT: usize = 4096;
 
 const FLAGS_LIMIT: u64 = 3;
+
+const PATH_LIMIT: usize = 4096;
+
+const FILES_LIMIT: usize = 64;
+
+const RULES_LIMIT: usize = 65536;
+
+const LINE_LIMIT: usize = 2048;
+
+const NAME_LIMIT: usize = 255;
+
+const NEWLINE: u8 = 10;
+
+const SLASH: u8 = 47;
 
 // Whether the pattern or the text is over its limit.
 pub fn too_long(pattern: &[u8], text: &[u8]) -> bool

@@ -26,7 +26,7 @@ fn mode(flags: u64) {
     }
 }
 
-// An answer other than the row expects; 16 and above is a refusal's code.
+// An answer of the matcher other than the row expects; 16 and above is a refusal's code.
 pub fn difference(label: &[u8], flags: u64, expected: u64, got: u64) {
     say(label);
     say(b" ");
@@ -35,6 +35,16 @@ pub fn difference(label: &[u8], flags: u64, expected: u64, got: u64) {
     number(expected);
     say(b", got ");
     number(got);
+    say(b"\n");
+}
+
+// An answer of a question other than the row expects.
+pub fn other_answer(label: &[u8], expected: &[u8], got: &[u8]) {
+    say(label);
+    say(b": expected ");
+    say(expected);
+    say(b", got ");
+    say(got);
     say(b"\n");
 }
 

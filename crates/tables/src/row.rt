@@ -1,4 +1,4 @@
-// One row: its pattern and text put to the matcher in each mode.
+// One row of the matcher: its pattern and text put to it in each mode.
 ghost use mathlib.Core.Path.{_≡_};
 ghost use lib.ListN.{length};
 use crate::fields;
@@ -6,10 +6,10 @@ use crate::report;
 
 // What a row came to.
 pub enum Outcome {
-    // It has not four fields that can be read.
+    // It has not the fields of its table, or one of them cannot be read.
     Malformed,
-    // It was run, and so many of its four answers differ.
-    Differing(u64),
+    // It was run: how many answers it has, and how many of them differ.
+    Ran { answers: u64, differ: u64 },
 }
 
 // The flags numbers of the modes, in the order of the expected answers.
@@ -76,7 +76,11 @@ fn run_decoded(
     if t > text.len() {
         return Outcome::Malformed;
     }
-    Outcome::Differing(count_differing(label, &pattern[0..p], &text[0..t], expected))
+    let differ = count_differing(label, &pattern[0..p], &text[0..t], expected);
+    Outcome::Ran {
+        answers: 4,
+        differ: differ,
+    }
 }
 
 fn run_fields(label: &[u8], pattern: &[u8], text: &[u8], expected: &[u8]) -> Outcome {

@@ -1,15 +1,22 @@
 // The rows of a file, and what they came to.
 use crate::fields;
+use crate::question;
 use crate::report;
 use crate::row;
 use crate::row::Outcome;
+
+// What the rows of a file are: pairs for the matcher, or questions.
+pub enum Table {
+    Matches,
+    Questions,
+}
 
 pub struct Tally {
     pub rows: u64,
     pub answers: u64,
     pub differ: u64,
     pub malformed: u64,
-    // The rows of the present section, and those of them whose four answers are as expected.
+    // The rows of the present section, and those of them whose answers are as expected.
     pub section_rows: u64,
     pub section_passed: u64,
 }
@@ -25,7 +32,7 @@ pub fn nothing() -> Tally {
     }
 }
 
-// The sum, or the largest number where the sum would not fit. The rows of two files come nowhere near it.
+// The sum, or the largest number where the sum would not fit. The rows of a few files come nowhere near it.
 fn plus(a: u64, b: u64) -> u64 {
     if b > u64::MAX - a {
         return u64::MAX;
@@ -44,12 +51,12 @@ fn with_malformed(t: Tally) -> Tally {
     }
 }
 
-fn with_answers(t: Tally, differing: u64) -> Tally {
-    let passed = if differing == 0 { 1 } else { 0 };
+fn with_answers(t: Tally, answers: u64, differ: u64) -> Tally {
+    let passed = if differ == 0 { 1 } else { 0 };
     Tally {
         rows: plus(t.rows, 1),
-        answers: plus(t.answers, 4),
-        differ: plus(t.differ, differing),
+        answers: plus(t.answers, answers),
+        differ: plus(t.differ, differ),
         malformed: t.malformed,
         section_rows: plus(t.section_rows, 1),
         section_passed: plus(t.section_passed, passed),
@@ -79,43 +86,51 @@ fn same_section(a: &[u8], b: &[u8]) -> bool {
     check::same(&a[0..n], &b[0..m])
 }
 
+// Runs a row of a table.
+fn run_row(table: Table, sheet: &[u8], row: &[u8]) -> Outcome {
+    match table {
+        Table::Matches => row::run_row(row),
+        Table::Questions => question::run_row(sheet, row),
+    }
+}
+
 // Runs a row and counts it.
-fn count_row(row: &[u8], t: Tally) -> Tally {
-    let outcome = row::run_row(row);
+fn count_row(table: Table, sheet: &[u8], row: &[u8], t: Tally) -> Tally {
+    let outcome = run_row(table, sheet, row);
     match outcome {
         Outcome::Malformed => {
             report::malformed(row);
             with_malformed(t)
         }
-        Outcome::Differing(n) => with_answers(t, n),
+        Outcome::Ran { answers, differ } => with_answers(t, answers, differ),
     }
 }
 
 // Counts a row; `last` begins with the row before it, whose section ends where this one's is another.
-fn next_row(last: &[u8], row: &[u8], t: Tally) -> Tally {
+fn next_row(table: Table, sheet: &[u8], last: &[u8], row: &[u8], t: Tally) -> Tally {
     if same_section(last, row) {
-        return count_row(row, t);
+        return count_row(table, sheet, row, t);
     }
-    count_row(row, end_section(last, t))
+    count_row(table, sheet, row, end_section(last, t))
 }
 
-// Whether a line is a row: neither empty nor a comment.
+// Whether a line is a row: neither empty nor a comment, and no file that rows lend.
 fn is_row(line: &[u8]) -> bool {
     if line.len() == 0 {
         return false;
     }
-    line[0] != b'#'
+    line[0] != b'#' && line[0] != b'='
 }
 
 // Runs the rows of a file, one a line.
-pub fn run_rows(s: &[u8], before: Tally) -> Tally {
+pub fn run_rows(table: Table, s: &[u8], before: Tally) -> Tally {
     let mut t = before;
     let mut last = 0;
     let mut i = 0;
     while i < s.len() {
         let end = fields::find(s, i, b'\n');
         if is_row(&s[i..end]) {
-            t = next_row(&s[last..i], &s[i..end], t);
+            t = next_row(table, s, &s[last..i], &s[i..end], t);
             last = i;
         }
         i = end + 1;

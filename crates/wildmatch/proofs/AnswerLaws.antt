@@ -10,7 +10,7 @@ use Rattle.refusals.proofs.LowestLaws.{lowest-one, lowest-refuses}
 use Rattle.wildmatch.specs.Sharing.{Matches}
 use Rattle.wildmatch.specs.Test.{matchesTest}
 use Rattle.wildmatch.specs.Meaning.{test-decides}
-use Rattle.wildmatch.specs.Answers.{modeOf, Decides, Answered}
+use Rattle.wildmatch.specs.Answers.{modeOf, MatchDecided, Answered}
 use Rattle.wildmatch.specs.declared.Mode.{Mode}
 use Rattle.wildmatch.specs.declared.answer.Answer.the-variants.{Unmatched, Matched, Refused}
 
@@ -22,7 +22,7 @@ pub test-false : {P : Type 0} (b : Bool) → (b ≡ true) ↔ P → b ≡ false 
 test-false b d e h = false≢true (sym e ∙ d .1 h)
 
 -- an answer that is the test's
-pub decides : (m : Mode) (p t : List ℕ) (b : Bool) → b ≡ matchesTest m p t → Decides m p t b
+pub decides : (m : Mode) (p t : List ℕ) (b : Bool) → b ≡ matchesTest m p t → MatchDecided m p t b
 decides m p t b e = let d = test-decides m p t in record { means = (λ h. d .0 (sym e ∙ h), λ w. e ∙ d .1 w); test = e }
 
 module _ (p t : List ℕ) (f : ℕ) where
@@ -33,7 +33,7 @@ module _ (p t : List ℕ) (f : ℕ) where
     unmatched = (λ e. clash (cc), λ h. absurd (lowest-refuses (MatcherRefuses p t f) n l (h .0)));
   }
 
-  pub answers-matched : (m : Mode) (b : Bool) → Accepted (MatcherRefuses p t f) → m ≡ modeOf f → Decides m p t b → b ≡ true → Answered p t f Matched
+  pub answers-matched : (m : Mode) (b : Bool) → Accepted (MatcherRefuses p t f) → m ≡ modeOf f → MatchDecided m p t b → b ≡ true → Answered p t f Matched
   answers-matched m b a e q h =
       let w : Matches (modeOf f) p t = subst (λ (k : Mode). Matches k p t) e (q .means .0 h) in
       record {
@@ -42,7 +42,7 @@ module _ (p t : List ℕ) (f : ℕ) where
         unmatched = (λ e. clash (cc), λ h. absurd (h .1 w));
       }
 
-  pub answers-unmatched : (m : Mode) (b : Bool) → Accepted (MatcherRefuses p t f) → m ≡ modeOf f → Decides m p t b → b ≡ false → Answered p t f Unmatched
+  pub answers-unmatched : (m : Mode) (b : Bool) → Accepted (MatcherRefuses p t f) → m ≡ modeOf f → MatchDecided m p t b → b ≡ false → Answered p t f Unmatched
   answers-unmatched m b a e q h =
       let w : Matches (modeOf f) p t → ⊥ = λ k. test-false b (q .means) h (subst (λ (o : Mode). Matches o p t) (sym e) k) in
       record {

@@ -12,3 +12,4 @@ pub mod AnswerLaws
 pub mod SkipLaws
 pub mod WayLaws
 pub mod ReachLaws
+pub mod EndLaws

@@ -22,7 +22,7 @@ modeOf flags = record { path = hasFlag flags 1; fold = hasFlag flags 2 }
 
 -- without refusals: "it matches exactly when the text is the joining, in order, of what its items may take", as the relation and as
 -- the test that decides it
-pub record Decides (mode : Mode) (pattern text : List ℕ) (answer : Bool) : Type 0 where
+pub record MatchDecided (mode : Mode) (pattern text : List ℕ) (answer : Bool) : Type 0 where
   pub means : (answer ≡ true) ↔ Matches mode pattern text
   pub test : answer ≡ matchesTest mode pattern text
 

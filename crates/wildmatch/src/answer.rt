@@ -1,6 +1,6 @@
 // The matcher as it is called from outside: refusals first, then the answer.
 ghost use mathlib.Core.Path.{_≡_};
-ghost use Rattle.wildmatch.specs.Answers.{hasFlag, modeOf, Decides, Answered, codeOf};
+ghost use Rattle.wildmatch.specs.Answers.{hasFlag, modeOf, MatchDecided, Answered, codeOf};
 use crate::Mode;
 use crate::matcher::Outcome;
 use crate::matcher::match_items;
@@ -16,7 +16,7 @@ pub enum Answer {
 }
 
 // Whether a flags number has this flag; 3 has both.
-fn has_flag(flags: u64, flag: u64) -> bool
+pub fn has_flag(flags: u64, flag: u64) -> bool
     ensures { λ r. ⌜ r ≡ hasFlag flags flag ⌝ }
 {
     flags == flag || flags == 3
@@ -34,7 +34,7 @@ pub fn mode_of(flags: u64) -> Mode
 
 // Whether the pattern matches the text, of any length and with any bytes: for callers that have done their own refusing.
 pub fn matches(pattern: &[u8], text: &[u8], mode: Mode) -> bool
-    ensures { λ r. ⌜ Decides mode (now (pattern .entry)) (now (text .entry)) r ⌝ }
+    ensures { λ r. ⌜ MatchDecided mode (now (pattern .entry)) (now (text .entry)) r ⌝ }
 {
     match match_items(pattern, text, mode) {
         Outcome::Matched => true,

@@ -1,5 +1,7 @@
 //! Says which case was being asked when the archive touched a fence.
+use crate::asking::form;
 use crate::hex;
+use crate::reader::Question;
 use std::sync::atomic::{AtomicPtr, AtomicU64, AtomicUsize, Ordering::Relaxed};
 
 const SIGBUS: i32 = 7;
@@ -14,6 +16,7 @@ extern "C" {
 static PATTERN: (AtomicPtr<u8>, AtomicUsize) = (AtomicPtr::new(std::ptr::null_mut()), AtomicUsize::new(0));
 static TEXT: (AtomicPtr<u8>, AtomicUsize) = (AtomicPtr::new(std::ptr::null_mut()), AtomicUsize::new(0));
 static FLAGS: AtomicU64 = AtomicU64::new(0);
+static QUESTION: AtomicPtr<Question> = AtomicPtr::new(std::ptr::null_mut());
 
 /// Remembers the case that is asked next.
 pub fn about(pattern: &[u8], text: &[u8], flags: u64) {
@@ -22,6 +25,12 @@ pub fn about(pattern: &[u8], text: &[u8], flags: u64) {
         place.1.store(bytes.len(), Relaxed);
     }
     FLAGS.store(flags, Relaxed);
+    QUESTION.store(std::ptr::null_mut(), Relaxed);
+}
+
+/// Remembers the question that is asked next; it must live until the next.
+pub fn about_question(question: &Question) {
+    QUESTION.store(std::ptr::from_ref(question).cast_mut(), Relaxed);
 }
 
 /// From now on a crash prints its case and ends the program with status 1.
@@ -33,6 +42,11 @@ pub fn report() {
 
 /// The archive does not allocate, so this may.
 extern "C" fn say(number: i32) {
+    let question = QUESTION.load(Relaxed);
+    if !question.is_null() {
+        println!("CRASH (signal {number}) {}", form::write(unsafe { &*question }));
+        unsafe { _exit(1) }
+    }
     let bytes = |place: &(AtomicPtr<u8>, AtomicUsize)| match place.0.load(Relaxed) {
         at if at.is_null() => "-".to_string(),
         at => hex::write(unsafe { std::slice::from_raw_parts(at, place.1.load(Relaxed)) }),

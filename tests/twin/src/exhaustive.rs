@@ -1,6 +1,7 @@
 //! Every small pattern against every small text, in the four modes.
 use crate::check::Check;
 use crate::fence::Fence;
+use crate::words::words;
 
 /// How far a set goes: the quick run and the full run.
 #[derive(Clone, Copy, PartialEq)]
@@ -26,23 +27,6 @@ pub fn run(check: &mut Check, extent: Extent) {
     names(check);
     ranges(check, extent);
     literals(check);
-}
-
-/// Every word over the letters, from `least` to `most` long.
-fn words(letters: &[u8], least: usize, most: usize, mut each: impl FnMut(&[u8])) {
-    for length in least..=most {
-        let mut digits = vec![0; length];
-        let mut word = vec![letters[0]; length];
-        loop {
-            each(&word);
-            // Count up by one; the last digit runs fastest.
-            let Some(at) = digits.iter().rposition(|&d| d + 1 < letters.len()) else { break };
-            digits[at] += 1;
-            word[at] = letters[digits[at]];
-            digits[at + 1..].fill(0);
-            word[at + 1..].fill(letters[0]);
-        }
-    }
 }
 
 fn texts(letters: &[u8], most: usize) -> Vec<Fence> {

@@ -1,7 +1,6 @@
 //! A thread's stack that is painted before the thread runs, so that what it
 //! changed can be seen afterwards. Below the stack lies an unmapped page: a
 //! call that needs more than `SIZE` crashes.
-use crate::archive;
 use std::ffi::c_void;
 use std::mem::MaybeUninit;
 
@@ -22,13 +21,11 @@ extern "C" {
     fn pthread_join(id: usize, result: *mut *mut c_void) -> i32;
 }
 
-/// What the thread is to ask; with no question it only starts and ends.
-type Question<'a> = Option<(&'a [u8], &'a [u8], u64)>;
+/// What the thread is to ask: a call that answers a code number.
+type Call<'a> = &'a dyn Fn() -> u32;
 
-extern "C" fn ask(question: *mut c_void) -> *mut c_void {
-    if let Some((pattern, text, flags)) = unsafe { *question.cast::<Question>() } {
-        std::hint::black_box(archive::ask_bare(pattern, text, flags));
-    }
+extern "C" fn ask(call: *mut c_void) -> *mut c_void {
+    std::hint::black_box(unsafe { *call.cast::<Call>() }());
     std::ptr::null_mut()
 }
 
@@ -53,30 +50,30 @@ impl Painted {
             whole.cast::<u8>().add(PAGE)
         };
         let mut painted = Painted { bottom, own: 0 };
-        painted.own = painted.used(None);
+        painted.own = painted.used(&|| 0);
         painted
     }
 
     /// Bytes of stack that the call itself uses.
-    pub fn depth(&self, pattern: &[u8], text: &[u8], flags: u64) -> usize {
-        self.used(Some((pattern, text, flags))) - self.own
+    pub fn depth(&self, call: Call) -> usize {
+        self.used(call) - self.own
     }
 
     /// Bytes from the stack's top to the deepest that was changed.
-    fn used(&self, mut question: Question) -> usize {
+    fn used(&self, mut call: Call) -> usize {
         unsafe {
             std::slice::from_raw_parts_mut(self.bottom, SIZE).fill(PAINT);
-            self.run((&raw mut question).cast());
+            self.run((&raw mut call).cast());
             let stack = std::slice::from_raw_parts(self.bottom, SIZE);
             SIZE - stack.iter().position(|&x| x != PAINT).unwrap_or(SIZE)
         }
     }
 
-    unsafe fn run(&self, question: *mut c_void) {
+    unsafe fn run(&self, call: *mut c_void) {
         let (mut attributes, mut id): (Attributes, usize) = (MaybeUninit::uninit(), 0);
         assert_eq!(pthread_attr_init(&mut attributes), 0);
         assert_eq!(pthread_attr_setstack(&mut attributes, self.bottom.cast(), SIZE), 0);
-        assert_eq!(pthread_create(&mut id, &attributes, ask, question), 0);
+        assert_eq!(pthread_create(&mut id, &attributes, ask, call), 0);
         assert_eq!(pthread_join(id, std::ptr::null_mut()), 0);
     }
 }

@@ -29,6 +29,16 @@ impl Random {
         self.below(100) < percent
     }
 
+    /// One of some byte strings.
+    pub fn word<'a>(&mut self, of: &[&'a [u8]]) -> &'a [u8] {
+        of[self.below(of.len())]
+    }
+
+    pub fn pick_mut<'a, T>(&mut self, of: &'a mut [T]) -> &'a mut T {
+        let place = self.below(of.len());
+        &mut of[place]
+    }
+
     pub fn pick<'a, T>(&mut self, of: &'a [T]) -> &'a T {
         &of[self.below(of.len())]
     }

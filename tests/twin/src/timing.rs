@@ -1,6 +1,5 @@
 //! The time of one call, and a watch that ends the program if a call does not
 //! come back.
-use crate::archive;
 use std::sync::atomic::{AtomicU64, Ordering};
 use std::sync::{Mutex, OnceLock};
 use std::thread;
@@ -21,14 +20,20 @@ fn now() -> f64 {
     time[0] as f64 * 1e6 + time[1] as f64 / 1e3
 }
 
-/// Microseconds of one call, the least of several.
+/// Microseconds of one call of the matcher, the least of several.
+#[cfg(feature = "fidshore")]
 pub fn microseconds(pattern: &[u8], text: &[u8], flags: u64) -> f64 {
+    least(&|| crate::archive::ask_bare(pattern, text, flags))
+}
+
+/// Microseconds of one call, the least of several.
+pub fn least(call: &dyn Fn() -> u32) -> f64 {
     let begun = now();
     let mut least = f64::INFINITY;
     loop {
         STARTED.store(since_zero(), Ordering::Relaxed);
         let start = now();
-        std::hint::black_box(archive::ask_bare(pattern, text, flags));
+        std::hint::black_box(call());
         let end = now();
         STARTED.store(0, Ordering::Relaxed);
         least = least.min(end - start);

@@ -2,13 +2,18 @@
 //!
 //! usage: families [limit in ms, default 1000] [quick|full, default full]
 //!
-//! Exit status 1 if any call is over the limit. Quick leaves out plain mode
-//! and the texts that may match.
+//! Exit status 1 if any call of the matcher is over the limit. Quick leaves
+//! out plain mode and the texts that may match. Then the questions, by the C
+//! calls: the usual ones, and how the families grow.
 use std::env::args;
 use std::process::exit;
 use std::time::Duration;
+use twin::asking::calls::code;
 use twin::families::{mode, Family, FAMILIES};
-use twin::timing::{about, microseconds, watch};
+use twin::growth::{time, Growth};
+use twin::question_families::{QuestionFamily, QUESTION_FAMILIES};
+use twin::timing::{about, least, microseconds, watch};
+use twin::usual;
 
 /// Pattern bytes; the text has twice as many.
 const SIZES: [usize; 4] = [256, 512, 1024, 2048];
@@ -32,6 +37,8 @@ fn main() {
         }
     }
     backtracking_row();
+    usual_questions();
+    growing_questions(if quick { 0.5 } else { 5.0 });
     println!("\nfamilies: worst {:.1} ms ({}), limit {limit} ms", worst.0 / 1000.0, worst.1);
     exit((worst.0 > limit * 1000.0) as i32);
 }
@@ -57,5 +64,49 @@ fn backtracking_row() {
         let time = microseconds(pattern.as_bytes(), text.as_bytes(), flags);
         let answer = twin::archive::ask_bare(pattern.as_bytes(), text.as_bytes(), flags);
         println!("| {} | {answer} | {time:.2} |", mode(flags));
+    }
+}
+
+/// Six components, and rule files of the usual kind.
+fn usual_questions() {
+    println!(
+        "\nThe usual question, a path of six components:\n\n| lines | ignore, us | attribute, us |\n|---|---|---|"
+    );
+    for lines in [10, 100, 1000] {
+        about(format!("the usual questions, {lines} lines"));
+        let (ignore, attributes) = (usual::ignore(lines), usual::attributes(lines));
+        let ignore = least(&|| code(&ignore, usual::PATH, None, 0));
+        let attribute = least(&|| code(&attributes, usual::PATH, Some(usual::ATTRIBUTE), 0));
+        println!("| {lines} | {ignore:.2} | {attribute:.2} |");
+    }
+}
+
+/// How each family grows, and how long it takes at the limits: measured if
+/// that should take no longer than so many seconds, else reckoned.
+fn growing_questions(seconds: f64) {
+    println!("\nQuestions: microseconds with 32 lines of 64 bytes and a path of 256 bytes; how many times longer");
+    println!("with twice as much; seconds at the limits (`about`: reckoned from the growth).\n");
+    println!("| family | us | twice the lines | twice the line | twice the path | grows as | at the limits, s |");
+    println!("|---|---|---|---|---|---|---|");
+    for family in QUESTION_FAMILIES {
+        let growth = Growth::of(family);
+        let line = if family.grows() { format!("x{:.1}", growth.line) } else { "-".to_string() };
+        println!(
+            "| {} | {:.1} | x{:.1} | {line} | x{:.1} | {} | {} |",
+            family.name,
+            growth.small,
+            growth.lines,
+            growth.path,
+            growth.words(),
+            at_the_limits(family, &growth, seconds)
+        );
+    }
+}
+
+fn at_the_limits(family: &QuestionFamily, growth: &Growth, seconds: f64) -> String {
+    let reckoned = growth.estimate(family, family.limits()) / 1e6;
+    match reckoned <= seconds {
+        true => format!("{:.4}", time(family, family.limits()) / 1e6),
+        false => format!("about {reckoned:.0}"),
     }
 }

@@ -1,16 +1,16 @@
 -- The last row begins at or before the present line.
+use borrow.Author.Needs.{needs}
 use mathlib.Core.Logic.{⊎-elim}
 use lib.ListN.{length}
-use Prim.Native.Nat.{_≤_, _+_, _-_}
-use borrow.Author.Needs.{needs}
+use Prim.Native.Nat.{_≤_, _-_, _+_}
 use Rattle.tables.proofs.tally.run_rows.Statement.{statement}
 use Rattle.tables.proofs.tally.run_rows.Tie as tie
 
 abbrev Inv-loop : tie.InvT-loop
-Inv-loop s t₀ last₀ i₀ t last i = (last ≤ i) × (last ≤ length s) × (i ≤ length s + 1)
+Inv-loop table s t₀ last₀ i₀ t last i = (last ≤ i) × (last ≤ length s) × (i ≤ length s + 1)
 
 abbrev μ-loop : tie.MeasureT-loop
-μ-loop s t₀ last₀ i₀ t last i = length s + 1 - i
+μ-loop table s t₀ last₀ i₀ t last i = length s + 1 - i
 
 loop-holds : tie.Need-loop-holds Inv-loop μ-loop
 loop-holds c = search needs

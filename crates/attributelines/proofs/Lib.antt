@@ -1,0 +1,4 @@
+-- Laws that callers use.
+pub mod WordLaws
+pub mod MentionLaws
+pub mod LineLaws

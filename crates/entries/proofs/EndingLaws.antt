@@ -1,0 +1,102 @@
+-- The quick test of last bytes excludes only what does not match.
+use Prim.Native.Nat.{ℕ, zero, suc, _-_}
+use native.Mathlib.Omega.{arith}
+use mathlib.Core.Path.{_≡_, refl, sym, ap, _∙_}
+use mathlib.Core.Bool.{Bool, true, false, cond, not, _&&_, false≢true}
+use mathlib.Core.List.{List, [], _∷_}
+use lib.Dec.{eqb}
+use lib.ListN.{length, getD}
+use borrow.Author.Tests.{eqb-false, not-true}
+use Rattle.classes.specs.Letters.{folded}
+use Rattle.wildmatch.proofs.EndLaws.{Plain, EndsIn, EndTaken, ends-tail, end-taken}
+use Rattle.wildmatch.proofs.Parts.{false-if-not, not-both}
+use Rattle.wildmatch.specs.Test.{matchesTest}
+use Rattle.entries.specs.Entries.{has, isEmpty, bareMatches}
+use Rattle.entries.specs.Ending.{endTaken, Excludes}
+
+-- The text's last byte.
+
+pub taken-nil : (fold : Bool) (c : ℕ) (t : List ℕ) → length t ≡ 0 → false ≡ endTaken fold c t
+unfolding endTaken
+taken-nil fold c [] h = refl
+taken-nil fold c (x ∷ t) h = absurd (omega arith)
+
+pub taken-some : (fold : Bool) (c : ℕ) (t : List ℕ) (r : Bool) → (length t ≡ 0 → ⊥) → r ≡ folded fold (λ y. eqb y c) (getD t (length t - 1) 0) → r ≡ endTaken fold c t
+unfolding endTaken
+taken-some fold c [] r h e = absurd (h refl)
+taken-some fold c (x ∷ t) r h e = e
+
+last-taken : (fold : Bool) (c : ℕ) (t : List ℕ) (n : ℕ) → length t ≡ suc n → EndTaken fold c t → folded fold (λ y. eqb y c) (getD t n 0) ≡ true
+last-taken fold c [] n l h = absurd h
+last-taken fold c (x ∷ []) zero l h = h
+last-taken fold c (x ∷ []) (suc n) l h = absurd (omega arith)
+last-taken fold c (x ∷ y ∷ t) zero l h = absurd (omega arith)
+last-taken fold c (x ∷ y ∷ t) (suc n) l h = last-taken fold c (y ∷ t) n (omega arith) h
+
+taken-end : (fold : Bool) (c : ℕ) (t : List ℕ) → EndTaken fold c t → endTaken fold c t ≡ true
+unfolding endTaken
+taken-end fold c [] h = absurd h
+taken-end fold c (x ∷ t) h = last-taken fold c (x ∷ t) (length (x ∷ t) - 1) (omega arith) h
+
+-- The pattern's end.
+
+ends-one : (c : ℕ) (p : List ℕ) → length p ≡ 1 → getD p (length p - 1) 0 ≡ c → EndsIn c p
+ends-one c [] l e = absurd (omega arith)
+ends-one c (x ∷ []) l e = e
+ends-one c (x ∷ y ∷ p) l e = absurd (omega arith)
+
+ends-at : (c : ℕ) (p : List ℕ) (n : ℕ) → length p ≡ suc (suc n) → (getD p n 0 ≡ 92 → ⊥) → getD p (suc n) 0 ≡ c → EndsIn c p
+ends-at c [] n l b e = absurd (omega arith)
+ends-at c (x ∷ []) n l b e = absurd (omega arith)
+ends-at c (x ∷ y ∷ []) zero l b e = (b, e)
+ends-at c (x ∷ y ∷ []) (suc n) l b e = absurd (omega arith)
+ends-at c (x ∷ y ∷ z ∷ p) zero l b e = absurd (omega arith)
+ends-at c (x ∷ y ∷ z ∷ p) (suc n) l b e = ends-at c (y ∷ z ∷ p) n (omega arith) b e
+
+ends-two : (c : ℕ) (p : List ℕ) → (length p ≡ 0 → ⊥) → (length p ≡ 1 → ⊥) → (getD p (length p - 2) 0 ≡ 92 → ⊥) → getD p (length p - 1) 0 ≡ c → EndsIn c p
+ends-two c p n o b e =
+    let k : length p - 1 ≡ suc (length p - 2) = omega arith in
+    ends-at c p (length p - 2) (omega arith) b (ap (λ (i : ℕ). getD p i 0) (sym k) ∙ e)
+
+-- What it excludes.
+
+module _ (fold : Bool) (rest name : List ℕ) where
+  pub excludes-none : (p : List ℕ) → Excludes fold rest name p false
+  unfolding Excludes
+  excludes-none p e = absurd (false≢true e)
+
+  pub bare-excluded : (p : List ℕ) (r : Bool) → Excludes fold rest name p r → r ≡ true → false ≡ bareMatches fold rest name p
+  unfolding Excludes
+  bare-excluded p r h e = sym (h e)
+
+  module _ (c : ℕ) (plain : Plain c) where
+    no-match : (path : Bool) (p t : List ℕ) → EndsIn c p → endTaken fold c t ≡ false → matchesTest (record { path = path; fold = fold }) p t ≡ false
+    no-match path p t h e =
+        false-if-not _ (λ w. not-both (taken-end fold c t (end-taken c plain (record { path = path; fold = fold }) p t h w)) e)
+
+    module _ (r : endTaken fold c rest ≡ false) (n : endTaken fold c name ≡ false) where
+      no-text : (path : Bool) (p : List ℕ) → EndsIn c p → matchesTest (record { path = path; fold = fold }) p (cond path rest name) ≡ false
+      no-text true p h = no-match true p rest h r
+      no-text false p h = no-match false p name h n
+
+      excluded : (p : List ℕ) → EndsIn c p → bareMatches fold rest name p ≡ false
+      unfolding bareMatches
+      excluded [] h = absurd h
+      excluded (x ∷ []) h = go (eqb x 47) (has 47 (x ∷ []))
+        where
+          go : (b path : Bool) → not (isEmpty (cond b [] (x ∷ []))) && matchesTest (record { path = path; fold = fold }) (cond b [] (x ∷ [])) (cond path rest name) ≡ false
+          go true path = refl
+          go false path = no-text path (x ∷ []) h
+      excluded (x ∷ y ∷ p) h = go (eqb x 47) (has 47 (x ∷ y ∷ p))
+        where
+          go : (b path : Bool) → not (isEmpty (cond b (y ∷ p) (x ∷ y ∷ p))) && matchesTest (record { path = path; fold = fold }) (cond b (y ∷ p) (x ∷ y ∷ p)) (cond path rest name) ≡ false
+          go true path = no-text path (y ∷ p) (ends-tail c x y p h)
+          go false path = no-text path (x ∷ y ∷ p) h
+
+      pub excludes-one : (p : List ℕ) → length p ≡ 1 → getD p (length p - 1) 0 ≡ c → Excludes fold rest name p true
+      unfolding Excludes
+      excludes-one p l e w = excluded p (ends-one c p l e)
+
+      pub excludes-two : (p : List ℕ) → (length p ≡ 0 → ⊥) → (length p ≡ 1 → ⊥) → getD p (length p - 1) 0 ≡ c → Excludes fold rest name p (not (eqb (getD p (length p - 2) 0) 92))
+      unfolding Excludes
+      excludes-two p l o e w = excluded p (ends-two c p l o (eqb-false _ _ (not-true _ w)) e)

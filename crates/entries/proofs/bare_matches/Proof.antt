@@ -1,0 +1,72 @@
+-- `entries::bare_matches` meets its contract: one law for each return.
+use mathlib.Core.Path.{sym, _∙_}
+use Rattle.entries.proofs.PatternLaws.{bare-empty, bare-name, bare-rest, bare-slash, bare-anchored}
+use Rattle.entries.proofs.EndingLaws.{bare-excluded}
+use borrow.Author.Needs.{needs}
+use Rattle.entries.proofs.bare_matches.Statement.{statement}
+use Rattle.entries.proofs.bare_matches.Tie as tie
+
+returns : tie.Need-returns
+returns c = sym (bare-empty _ _ _ _ (c .if1 .taken))
+
+cannot-match-requires : tie.Need-cannot-match-requires
+cannot-match-requires c κs = search needs
+
+returns-2 : tie.Need-returns-2
+returns-2 c = bare-excluded _ _ _ _ _ (c .before .cannot-match .ensures) (c .if2 .taken)
+
+has-slash-requires : tie.Need-has-slash-requires
+has-slash-requires c κs = search needs
+
+shared-slice-read-if4 : tie.Need-shared-slice-read-if4
+shared-slice-read-if4 c = search needs
+
+matches-requires : tie.Need-matches-requires
+matches-requires c κs = search needs
+
+returns-3 : tie.Need-returns-3
+returns-3 c = bare-rest _ _ _ _ _ (c .before .before .before .before .before .before .before .if1 .left) (sym (c .before .before .before .before .has-slash .ensures) ∙ c .before .before .before .if3 .taken) (c .before .if4 .taken) (c .matches .ensures .test)
+
+returns-4 : tie.Need-returns-4
+returns-4 c = sym (bare-slash _ _ _ _ (c .before .if4 .left) (c .if5 .taken))
+
+sub-matches : tie.Need-sub-matches
+sub-matches c = search needs
+
+part-matches-start : tie.Need-part-matches-start
+part-matches-start c = search needs
+
+part-matches-end : tie.Need-part-matches-end
+part-matches-end c = search needs
+
+matches-requires-2 : tie.Need-matches-requires-2
+matches-requires-2 c κs = search needs
+
+returns-5 : tie.Need-returns-5
+returns-5 c = bare-anchored _ _ _ _ _ (c .before .before .before .if4 .left) (c .before .before .before .before .before .before .before .before .before .if1 .left) (c .before .before .if5 .left) (c .matches2 .ensures .test)
+
+matches-requires-3 : tie.Need-matches-requires-3
+matches-requires-3 c κs = search needs
+
+returns-6 : tie.Need-returns-6
+returns-6 c = bare-name _ _ _ _ _ (c .before .before .before .before .before .if1 .left) (sym (c .before .before .has-slash .ensures) ∙ c .before .if3 .left) (c .matches3 .ensures .test)
+
+pub bare-matches-spec : {M : Type 1} → statement M
+bare-matches-spec =
+    tie.close
+    (tie.spec
+    returns
+    cannot-match-requires
+    returns-2
+    has-slash-requires
+    shared-slice-read-if4
+    matches-requires
+    returns-3
+    returns-4
+    sub-matches
+    part-matches-start
+    part-matches-end
+    matches-requires-2
+    returns-5
+    matches-requires-3
+    returns-6)

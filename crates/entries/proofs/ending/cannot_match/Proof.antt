@@ -1,0 +1,75 @@
+-- `entries::ending::cannot_match` meets its contract: it says yes only where every test before has failed.
+use mathlib.Core.Path.{refl, sym, _∙_}
+use Rattle.entries.proofs.EndingLaws.{excludes-none, excludes-one, excludes-two}
+use borrow.Author.Needs.{needs}
+use Rattle.entries.proofs.ending.cannot_match.Statement.{statement}
+use Rattle.entries.proofs.ending.cannot_match.Tie as tie
+
+returns : tie.Need-returns
+returns c = excludes-none _ _ _ _
+
+sub-c : tie.Need-sub-c
+sub-c c = search needs
+
+shared-slice-read-c : tie.Need-shared-slice-read-c
+shared-slice-read-c c = search needs
+
+ends-in-requires : tie.Need-ends-in-requires
+ends-in-requires c κs = search needs
+
+returns-2 : tie.Need-returns-2
+returns-2 c = excludes-none _ _ _ _
+
+ends-in-requires-2 : tie.Need-ends-in-requires-2
+ends-in-requires-2 c κs = search needs
+
+returns-3 : tie.Need-returns-3
+returns-3 c = excludes-none _ _ _ _
+
+returns-4 : tie.Need-returns-4
+returns-4 c = excludes-none _ _ _ _
+
+returns-5 : tie.Need-returns-5
+returns-5 c = excludes-none _ _ _ _
+
+returns-6 : tie.Need-returns-6
+returns-6 c = excludes-none _ _ _ _
+
+returns-7 : tie.Need-returns-7
+returns-7 c = excludes-none _ _ _ _
+
+returns-8 : tie.Need-returns-8
+returns-8 c = excludes-none _ _ _ _
+
+returns-9 : tie.Need-returns-9
+returns-9 c = let k = c .before in excludes-one _ _ _ _ (k .before .before .before .before .if4 .left, k .before .before .before .if5 .left, k .before .before .if6 .left, k .before .if7 .left, k .if8 .left) (sym (k .before .before .before .before .before .before .before .before .ends-in .ensures) ∙ k .before .before .before .before .before .before .before .if2 .left) (sym (k .before .before .before .before .before .before .ends-in2 .ensures) ∙ k .before .before .before .before .before .if3 .left) _ (c .if9 .taken) refl
+
+sub-result : tie.Need-sub-result
+sub-result c = search needs
+
+shared-slice-read-result : tie.Need-shared-slice-read-result
+shared-slice-read-result c = search needs
+
+returns-10 : tie.Need-returns-10
+returns-10 c = let k = c .before .before in excludes-two _ _ _ _ (k .before .before .before .before .if4 .left, k .before .before .before .if5 .left, k .before .before .if6 .left, k .before .if7 .left, k .if8 .left) (sym (k .before .before .before .before .before .before .before .before .ends-in .ensures) ∙ k .before .before .before .before .before .before .before .if2 .left) (sym (k .before .before .before .before .before .before .ends-in2 .ensures) ∙ k .before .before .before .before .before .if3 .left) _ (k .before .before .before .before .before .before .before .before .before .before .if1 .left) (c .before .if9 .left) refl
+
+pub cannot-match-spec : {M : Type 1} → statement M
+cannot-match-spec =
+    tie.close
+    (tie.spec
+    returns
+    sub-c
+    shared-slice-read-c
+    ends-in-requires
+    returns-2
+    ends-in-requires-2
+    returns-3
+    returns-4
+    returns-5
+    returns-6
+    returns-7
+    returns-8
+    returns-9
+    sub-result
+    shared-slice-read-result
+    returns-10)

@@ -1,0 +1,90 @@
+// How the pattern of a line is matched against an entry.
+ghost use mathlib.Core.Path.{_≡_};
+ghost use Rattle.entries.specs.Entries.{has, bareMatches, textsMatch, nameStart};
+
+mod ending;
+
+use ending::cannot_match;
+use wildmatch::Mode;
+use wildmatch::answer::matches;
+
+// Whether the pattern has a `/`.
+fn has_slash(pattern: &[u8]) -> bool
+    ensures { λ r. ⌜ r ≡ has 47 (now (pattern .entry)) ⌝ }
+{
+    let mut i = 0;
+    while i < pattern.len() {
+        if pattern[i] == 47 {
+            return true;
+        }
+        i += 1;
+    }
+    false
+}
+
+// A pattern whose last `/` has gone.
+fn bare_matches(pattern: &[u8], rest: &[u8], name: &[u8], fold: bool) -> bool
+    ensures { λ r. ⌜ r ≡ bareMatches fold (now (rest .entry)) (now (name .entry)) (now (pattern .entry)) ⌝ }
+{
+    if pattern.len() == 0 {
+        return false;
+    }
+    if cannot_match(pattern, rest, name, fold) {
+        return false;
+    }
+    if has_slash(pattern) {
+        let anchored = Mode {
+            path: true,
+            fold: fold,
+        };
+        if pattern[0] != 47 {
+            return matches(pattern, rest, anchored);
+        }
+        if pattern.len() == 1 {
+            return false;
+        }
+        return matches(&pattern[1..], rest, anchored);
+    }
+    let plain = Mode {
+        path: false,
+        fold: fold,
+    };
+    matches(pattern, name, plain)
+}
+
+// Whether the pattern of a line matches an entry: the rest is the entry from the base on, the name its last component.
+pub fn pattern_matches(
+    pattern: &[u8],
+    rest: &[u8],
+    name: &[u8],
+    directory: bool,
+    fold: bool,
+) -> bool
+    ensures { λ r. ⌜ r ≡ textsMatch fold directory (now (rest .entry)) (now (name .entry)) (now (pattern .entry)) ⌝ }
+{
+    let n = pattern.len();
+    if n == 0 {
+        return false;
+    }
+    if pattern[n - 1] != 47 {
+        return bare_matches(pattern, rest, name, fold);
+    }
+    if directory {
+        return bare_matches(&pattern[..n - 1], rest, name, fold);
+    }
+    false
+}
+
+// Where the last component of an entry starts.
+pub fn name_start(entry: &[u8]) -> usize
+    ensures { λ r. ⌜ r ≡ nameStart (now (entry .entry)) ⌝ }
+{
+    let mut i = entry.len();
+    while 0 < i {
+        if entry[i - 1] == 47 {
+            return i;
+        }
+        i -= 1;
+    }
+    0
+}

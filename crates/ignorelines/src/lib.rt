@@ -1,0 +1,113 @@
+// What one ignore line says of one entry.
+ghost use mathlib.Core.Path.{_≡_};
+ghost use mathlib.Core.Bool.{false};
+ghost use Rattle.ignorelines.specs.IgnoreLines.{withoutCr, kept, ruleWord, bytesWord, verdictOf};
+ghost use Rattle.ignorelines.specs.Scan.{escapesNext, keptAfter};
+use entries::pattern_matches;
+
+// A line's word.
+pub enum Word {
+    Silent,
+    Ignores,
+    Reincludes,
+}
+
+// The line without one CR at its end.
+fn without_cr(line: &[u8]) -> &[u8]
+    ensures { λ r. ⌜ now r ≡ withoutCr (now (line .entry)) ⌝ }
+{
+    let n = line.len();
+    if n == 0 {
+        return line;
+    }
+    if line[n - 1] == 13 {
+        return &line[..n - 1];
+    }
+    line
+}
+
+// Whether the byte after b is escaped.
+fn escapes(b: u8, escaped: bool) -> bool
+    ensures { λ r. ⌜ r ≡ escapesNext b escaped ⌝ }
+{
+    if escaped {
+        return false;
+    }
+    b == 92
+}
+
+// How many bytes are known to stay after byte b: up to the next place, unless it is a space that may be a trailing one.
+fn kept_after(keep: usize, next: usize, b: u8, escaped: bool) -> usize
+    ensures { λ r. ⌜ r ≡ keptAfter keep next b escaped ⌝ }
+{
+    if escaped {
+        return next;
+    }
+    if b == 32 {
+        return keep;
+    }
+    next
+}
+
+// How many bytes stay when the trailing spaces go, by a reading of the whole line.
+fn kept_scan(line: &[u8]) -> usize
+    ensures { λ r. ⌜ r ≡ kept false (now (line .entry)) ⌝ }
+{
+    let mut keep = 0;
+    let mut escaped = false;
+    let mut i = 0;
+    while i < line.len() {
+        let b = line[i];
+        keep = kept_after(keep, i + 1, b, escaped);
+        escaped = escapes(b, escaped);
+        i += 1;
+    }
+    keep
+}
+
+// The same; a line that ends in no space keeps all its bytes.
+fn kept_length(line: &[u8]) -> usize
+    ensures { λ r. ⌜ r ≡ kept false (now (line .entry)) ⌝ }
+{
+    let n = line.len();
+    if n == 0 {
+        return 0;
+    }
+    if line[n - 1] == 32 {
+        return kept_scan(line);
+    }
+    n
+}
+
+// What a stripped line says.
+fn rule_word(line: &[u8], rest: &[u8], name: &[u8], directory: bool, fold: bool) -> Word
+    ensures { λ r. ⌜ verdictOf r ≡ ruleWord fold directory (now (rest .entry)) (now (name .entry)) (now (line .entry)) ⌝ }
+{
+    if line.len() == 0 {
+        return Word::Silent;
+    }
+    let not = line[0] == 33;
+    let start: usize = if not { 1 } else { 0 };
+    if pattern_matches(&line[start..], rest, name, directory, fold) {
+        if not {
+            return Word::Reincludes;
+        }
+        return Word::Ignores;
+    }
+    Word::Silent
+}
+
+// What a line says of an entry: the rest is the entry from the base on, the name its last component.
+pub fn line_word(line: &[u8], rest: &[u8], name: &[u8], directory: bool, fold: bool) -> Word
+    ensures { λ r. ⌜ verdictOf r ≡ bytesWord fold directory (now (rest .entry)) (now (name .entry)) (now (line .entry)) ⌝ }
+{
+    let content = without_cr(line);
+    if content.len() == 0 {
+        return Word::Silent;
+    }
+    if content[0] == 35 {
+        return Word::Silent;
+    }
+    let n = kept_length(content);
+    rule_word(&content[..n], rest, name, directory, fold)
+}

@@ -1,0 +1,151 @@
+-- The lines of a blanked file are the file's lines, of which the chosen ones are spaces.
+use Prim.Native.Nat.{ℕ, suc, _+_}
+use mathlib.Core.Path.{_≡_, refl, sym, ap, subst, _∙_}
+use mathlib.Core.Logic.{⊎-elim}
+use mathlib.Core.Bool.{Bool, true, false, cond, _&&_, false≢true}
+use mathlib.Core.List.{List, [], _∷_, List·Memᴰ, List·Memᴰ·head, List·Memᴰ·tail, List·Memᴰ·not-nil, List·Memᴰ·cases-cons, cons≢nil}
+use native.Mathlib.Omega.{arith}
+use lib.Dec.{eqb}
+use lib.ListN.{length, drop}
+use borrow.Author.Tests.{eqb-true}
+use Rattle.rulefiles.specs.RuleFiles.{File, Line, onto, split, hasBom, bomLength, linesFrom, linesOf}
+use Rattle.entries.specs.Entries.{isEmpty}
+use Rattle.layers.specs.Blanking.{Choice, overwritten, blankedFile}
+use Rattle.layers.specs.SpaceLines.{spaces, length-spaces}
+use Rattle.layers.specs.Kept.{Blank, Alike, alike-nil, alike-same, alike-blank, alike-refl}
+use Rattle.layers.specs.BlankBytes.{bom-overwritten, blanked-or-not}
+
+-- the raw lines of a file from its line n on, the chosen ones as spaces
+abbrev pub blankLines : (ℕ → Bool) → ℕ → List (List ℕ) → List (List ℕ)
+blankLines chosen n [] = []
+blankLines chosen n (l ∷ ls) = cond (chosen n) (spaces l) l ∷ blankLines chosen (suc n) ls
+
+-- Overwriting bytes commutes with splitting at newlines.
+
+empty-line : (c : Bool) → cond c (spaces []) [] ≡ []
+empty-line true = refl
+empty-line false = refl
+
+first-line : (c : Bool) (b : ℕ) (l : List ℕ) → cond c 32 b ∷ cond c (spaces l) l ≡ cond c (spaces (b ∷ l)) (b ∷ l)
+first-line true b l = refl
+first-line false b l = refl
+
+no-newline : (c : Bool) (b : ℕ) → eqb b 10 ≡ false → eqb (cond c 32 b) 10 ≡ false
+no-newline true b e = refl
+no-newline false b e = e
+
+module _ (chosen : ℕ → Bool) where
+  onto-blank : (n b : ℕ) (ls : List (List ℕ)) → onto (cond (chosen n) 32 b) (blankLines chosen n ls) ≡ blankLines chosen n (onto b ls)
+  onto-blank n b [] = ap {B = List (List ℕ)} (λ (l : List ℕ). l ∷ []) (ap {B = List ℕ} (λ (l : List ℕ). cond (chosen n) 32 b ∷ l) (sym (empty-line (chosen n))) ∙ first-line (chosen n) b [])
+  onto-blank n b (l ∷ ls) = ap {B = List (List ℕ)} (λ (x : List ℕ). x ∷ blankLines chosen (suc n) ls) (first-line (chosen n) b l)
+
+  pub split-overwritten : (n : ℕ) (s : List ℕ) → split (overwritten chosen n s) ≡ blankLines chosen n (split s)
+  unfolding split overwritten
+  split-overwritten n [] = refl
+  split-overwritten n (b ∷ s) = go (eqb b 10) refl (split-overwritten (suc n) s) (split-overwritten n s)
+    where
+      go : (t : Bool) → eqb b 10 ≡ t → split (overwritten chosen (suc n) s) ≡ blankLines chosen (suc n) (split s) → split (overwritten chosen n s) ≡ blankLines chosen n (split s)
+          → split (overwritten chosen n (b ∷ s)) ≡ blankLines chosen n (split (b ∷ s))
+      go true e next same = simp (e, next, empty-line)
+      go false e next same = rw (e, no-newline (chosen n) b e, same) (onto-blank n b (split s))
+
+  -- refusal 5: the lines are as long as before
+  pub blank-line : (n : ℕ) (ls : List (List ℕ)) (l : List ℕ) → List·Memᴰ l (blankLines chosen n ls) → (r : List ℕ) × List·Memᴰ r ls × (length l ≡ length r)
+  blank-line n [] l m = absurd (List·Memᴰ·not-nil m)
+  blank-line n (x ∷ ls) l m =
+      ⊎-elim (λ e. (x, List·Memᴰ·head refl, ap length e ∙ long (chosen n))) (λ r. let w = blank-line (suc n) ls l r in (w .0, List·Memᴰ·tail (w .1), w .2)) (List·Memᴰ·cases-cons m)
+    where
+      long : (c : Bool) → length (cond c (spaces x) x) ≡ length x
+      long true = length-spaces x
+      long false = refl
+
+-- bytes have a first line
+split-some : (s : List ℕ) → isEmpty s ≡ false → split s ≡ [] → ⊥
+unfolding split
+split-some [] h e = false≢true (sym h)
+split-some (b ∷ s) h e = go (eqb b 10) (split s) e
+  where
+    go : (t : Bool) (ls : List (List ℕ)) → cond t ([] ∷ ls) (onto b ls) ≡ [] → ⊥
+    go true ls e = cons≢nil e
+    go false [] e = cons≢nil e
+    go false (l ∷ ls) e = cons≢nil e
+
+-- The lines with their places.
+
+module _ (chosen : Choice) (file base : ℕ) where
+  blank-at : (n start again : ℕ) (l raw : List ℕ) → chosen file n ≡ true
+      → Blank chosen (record { file = file; number = n; base = base; start = start; bytes = l }) (record { file = file; number = n; base = base; start = again; bytes = spaces raw })
+  blank-at n start again l raw e = record { was-chosen = e; same-file = refl; same-number = refl; same-base = refl; raw = raw; all-spaces = refl }
+
+  -- `again` is the start, perhaps written in another way
+  alike-lines : (n start again : ℕ) → again ≡ start → (ls : List (List ℕ)) → Alike chosen (linesFrom file base n start ls) (linesFrom file base n again (blankLines (chosen file) n ls))
+  alike-lines n start again h [] = alike-nil
+  alike-lines n start again h (l ∷ ls) = go (chosen file n) refl (λ k e. alike-lines (suc n) (start + length l + 1) k e ls)
+    where
+      go : (c : Bool) → chosen file n ≡ c
+          → ((k : ℕ) → k ≡ start + length l + 1 → Alike chosen (linesFrom file base (suc n) (start + length l + 1) ls) (linesFrom file base (suc n) k (blankLines (chosen file) (suc n) ls)))
+          → Alike chosen (linesFrom file base n start (l ∷ ls)) (linesFrom file base n again (cond c (spaces l) l ∷ blankLines (chosen file) (suc n) ls))
+      go true e a = alike-blank (blank-at n start again l l e) (a (again + length (spaces l) + 1) (omega (arith, length-spaces l)))
+      go false e a = alike-same (ap (λ (k : ℕ). record { file = file; number = n; base = base; start = k; bytes = l }) h) (a (again + length l + 1) (omega arith))
+
+  -- blanked with its BOM, line 1 is three spaces longer and starts where the BOM did
+  alike-bom : (start : ℕ) (s : List ℕ) → isEmpty s ≡ false → chosen file 1 ≡ true
+      → Alike chosen (linesFrom file base 1 (start + 3) (split s)) (linesFrom file base 1 (start + 0) (onto 32 (onto 32 (onto 32 (blankLines (chosen file) 1 (split s))))))
+  alike-bom start s h c = go (split s) (split-some s h)
+    where
+      go : (ls : List (List ℕ)) → (ls ≡ [] → ⊥) → Alike chosen (linesFrom file base 1 (start + 3) ls) (linesFrom file base 1 (start + 0) (onto 32 (onto 32 (onto 32 (blankLines (chosen file) 1 ls)))))
+      go [] k = absurd (k refl)
+      go (l ∷ ls) k =
+          rw c (alike-blank (blank-at 1 (start + 3) (start + 0) l (239 ∷ 187 ∷ 191 ∷ l) c) (alike-lines 2 (start + 3 + length l + 1) (start + 0 + length (32 ∷ 32 ∷ 32 ∷ spaces l) + 1) (omega (arith, length-spaces l)) ls))
+
+-- a file that begins with a BOM
+bom-bytes : (s : List ℕ) → hasBom s ≡ true → (t : List ℕ) × (s ≡ 239 ∷ 187 ∷ 191 ∷ t)
+bom-bytes [] h = absurd (false≢true h)
+bom-bytes (a ∷ []) h = absurd (false≢true h)
+bom-bytes (a ∷ b ∷ []) h = absurd (false≢true h)
+bom-bytes (a ∷ b ∷ c ∷ s) h = go (eqb a 239) (eqb b 187) (eqb c 191) refl refl refl h
+  where
+    go : (x y z : Bool) → eqb a 239 ≡ x → eqb b 187 ≡ y → eqb c 191 ≡ z → x && (y && z) ≡ true → (t : List ℕ) × (a ∷ b ∷ c ∷ s ≡ 239 ∷ 187 ∷ 191 ∷ t)
+    go true true true p q r h = (s, rw (eqb-true a 239 p, eqb-true b 187 q, eqb-true c 191 r))
+    go false y z p q r h = absurd (false≢true h)
+    go true false z p q r h = absurd (false≢true h)
+    go true true false p q r h = absurd (false≢true h)
+
+-- a file's blanked bytes, lent in its place
+unfoldable pub blankOne : Choice → File → File
+blankOne chosen f = record { number = f .number; base = f .base; start = f .start; bytes = blankedFile (chosen (f .number)) (f .bytes) }
+
+module _ (chosen : Choice) (file base start : ℕ) where
+  -- the lines of these bytes
+  abbrev linesAt : List ℕ → List Line
+  linesAt s = linesFrom file base 1 (start + bomLength s) (split (drop (bomLength s) s))
+
+  -- these bytes have a line, and the lines of the overwritten bytes are alike
+  abbrev Alikes : List ℕ → Type 0
+  Alikes s = isEmpty (drop (bomLength s) s) ≡ false → Alike chosen (linesAt s) (linesAt (overwritten (chosen file) 1 s))
+
+  with-bom : (t : List ℕ) → Alikes (239 ∷ 187 ∷ 191 ∷ t)
+  unfolding bomLength overwritten split
+  with-bom t h = go (chosen file 1) refl
+    where
+      go : (c : Bool) → chosen file 1 ≡ c → Alike chosen (linesAt (239 ∷ 187 ∷ 191 ∷ t)) (linesAt (overwritten (chosen file) 1 (239 ∷ 187 ∷ 191 ∷ t)))
+      go true e = rw (e, split-overwritten (chosen file) 1 t) (alike-bom chosen file base start t h e)
+      go false e = rw (e, split-overwritten (chosen file) 1 t) (alike-lines chosen file base 1 (start + 3) (start + 3) refl (split t))
+
+  without-bom : (s : List ℕ) → hasBom s ≡ false → Alikes s
+  unfolding bomLength
+  without-bom s e h = rw (e, bom-overwritten (chosen file) 1 s e, split-overwritten (chosen file) 1 s) (alike-lines chosen file base 1 (start + 0) (start + 0) refl (split s))
+
+  alike-bytes : (s : List ℕ) → Alike chosen (linesAt s) (linesAt (blankedFile (chosen file) s))
+  alike-bytes s =
+      ⊎-elim (λ e. subst (λ (r : List ℕ). Alike chosen (linesAt s) (linesAt r)) (sym e) (alike-refl chosen (linesAt s)))
+      (λ w. subst (λ (r : List ℕ). Alike chosen (linesAt s) (linesAt r)) (sym (w .1)) (go (hasBom s) refl (w .0)))
+      (blanked-or-not (chosen file) s)
+    where
+      go : (b : Bool) → hasBom s ≡ b → Alikes s
+      go false e = without-bom s e
+      go true e = let w = bom-bytes s e in subst Alikes (sym (w .1)) (with-bom (w .0))
+
+pub alike-file : (chosen : Choice) (f : File) → Alike chosen (linesOf f) (linesOf (blankOne chosen f))
+unfolding linesOf blankOne
+alike-file chosen f = alike-bytes chosen (f .number) (f .base) (f .start) (f .bytes)

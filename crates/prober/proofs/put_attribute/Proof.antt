@@ -1,0 +1,46 @@
+-- One line for each answer.
+use Rattle.prober.proofs.PutLaws.{put-none}
+use Rattle.prober.specs.Probes.{attributeNumbers}
+use borrow.Author.Needs.{needs}
+use Rattle.prober.proofs.put_attribute.Statement.{statement}
+use Rattle.prober.proofs.put_attribute.Tie as tie
+
+enum-told : tie.Need-enum-told
+enum-told c = search needs
+
+enum-known-answer : tie.Need-enum-known-answer
+enum-known-answer c = search needs
+
+put-spoken-requires : tie.Need-put-spoken-requires
+put-spoken-requires c κs = search needs
+
+enum-told-2 : tie.Need-enum-told-2
+enum-told-2 c = search needs
+
+returns : tie.Need-returns
+unfolding attributeNumbers
+returns c = rw (c .enum-told .given .1) (put-none _)
+
+same-length : tie.Need-same-length
+same-length c = search needs
+
+returns-2 : tie.Need-returns-2
+unfolding attributeNumbers
+returns-2 c = rw (c .before .before .before .before .before .answer .given .1) (c .before .before .put-spoken .ensures)
+
+returns-3 : tie.Need-returns-3
+unfolding attributeNumbers
+returns-3 c = rw (c .enum-told2 .given .1) (put-none _)
+
+pub put-attribute-spec : {M : Type 1} → statement M
+put-attribute-spec =
+    tie.close
+    (tie.spec
+    enum-told
+    enum-known-answer
+    put-spoken-requires
+    enum-told-2
+    returns
+    same-length
+    returns-2
+    returns-3)

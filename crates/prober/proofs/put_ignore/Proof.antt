@@ -1,0 +1,63 @@
+-- One line for each answer.
+use Rattle.prober.proofs.PutLaws.{put-none}
+use Rattle.prober.specs.Probes.{ignoreNumbers}
+use borrow.Author.Needs.{needs}
+use Rattle.prober.proofs.put_ignore.Statement.{statement}
+use Rattle.prober.proofs.put_ignore.Tie as tie
+
+enum-told : tie.Need-enum-told
+enum-told c = search needs
+
+enum-known-answer : tie.Need-enum-known-answer
+enum-known-answer c = search needs
+
+put-decided-requires : tie.Need-put-decided-requires
+put-decided-requires c κs = search needs
+
+enum-known-answer-2 : tie.Need-enum-known-answer-2
+enum-known-answer-2 c = search needs
+
+put-decided-requires-2 : tie.Need-put-decided-requires-2
+put-decided-requires-2 c κs = search needs
+
+enum-told-2 : tie.Need-enum-told-2
+enum-told-2 c = search needs
+
+returns : tie.Need-returns
+unfolding ignoreNumbers
+returns c = rw (c .enum-told .given .1) (put-none _)
+
+same-length : tie.Need-same-length
+same-length c = search needs
+
+returns-2 : tie.Need-returns-2
+unfolding ignoreNumbers
+returns-2 c = rw (c .before .before .before .before .before .answer .given .1) (c .before .before .put-decided .ensures)
+
+same-length-2 : tie.Need-same-length-2
+same-length-2 c = search needs
+
+returns-3 : tie.Need-returns-3
+unfolding ignoreNumbers
+returns-3 c = rw (c .before .before .before .before .before .answer2 .given .1) (c .before .before .put-decided2 .ensures)
+
+returns-4 : tie.Need-returns-4
+unfolding ignoreNumbers
+returns-4 c = rw (c .enum-told2 .given .1) (put-none _)
+
+pub put-ignore-spec : {M : Type 1} → statement M
+put-ignore-spec =
+    tie.close
+    (tie.spec
+    enum-told
+    enum-known-answer
+    put-decided-requires
+    enum-known-answer-2
+    put-decided-requires-2
+    enum-told-2
+    returns
+    same-length
+    returns-2
+    same-length-2
+    returns-3
+    returns-4)

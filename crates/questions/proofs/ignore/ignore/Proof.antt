@@ -1,0 +1,34 @@
+-- `questions::ignore::ignore` meets its contract: a refusal is the lowest; an accepted question has its answer.
+use Rattle.questions.proofs.AnswerLaws.{ignore-refused, ignore-answered}
+use borrow.Author.Needs.{needs}
+use Rattle.questions.proofs.ignore.ignore.Statement.{statement}
+use Rattle.questions.proofs.ignore.ignore.Tie as tie
+
+ignore-refusal-requires : tie.Need-ignore-refusal-requires
+ignore-refusal-requires c κs = search needs
+
+returns : tie.Need-returns
+returns c = ignore-refused _ _ _ _ _ _ (c .before .ignore-refusal .ensures) (c .if1 .taken)
+
+has-flag-requires : tie.Need-has-flag-requires
+has-flag-requires c κs = search needs
+
+has-flag-requires-2 : tie.Need-has-flag-requires-2
+has-flag-requires-2 c κs = search needs
+
+judge-path-requires : tie.Need-judge-path-requires
+judge-path-requires c κs = search needs
+
+returns-2 : tie.Need-returns-2
+returns-2 c = ignore-answered _ _ _ _ _ _ _ _ _ (c .before .before .before .before .ignore-refusal .ensures) (c .before .before .before .if1 .left) (c .before .before .has-flag .ensures) (c .before .has-flag2 .ensures) (c .judge-path .ensures)
+
+pub ignore-spec : {M : Type 1} → statement M
+ignore-spec =
+    tie.close
+    (tie.spec
+    ignore-refusal-requires
+    returns
+    has-flag-requires
+    has-flag-requires-2
+    judge-path-requires
+    returns-2)

@@ -1,0 +1,26 @@
+-- `questions::ignore::judge` meets its contract: the answer has the verdict, the length and the place.
+use borrow.Author.Needs.{needs}
+use Rattle.questions.proofs.ignore.judge.Statement.{statement}
+use Rattle.questions.proofs.ignore.judge.Tie as tie
+
+enum-told : tie.Need-enum-told
+enum-told c = search needs
+
+enum-known-said : tie.Need-enum-known-said
+enum-known-said c = search needs
+
+enum-known-said-2 : tie.Need-enum-known-said-2
+enum-known-said-2 c = search needs
+
+returns : tie.Need-returns
+returns c = search needs
+
+returns-2 : tie.Need-returns-2
+returns-2 c = rw (c .before .said .given .1)
+
+returns-3 : tie.Need-returns-3
+returns-3 c = rw (c .before .said2 .given .1)
+
+pub judge-spec : {M : Type 1} → statement M
+judge-spec =
+    tie.close (tie.spec enum-told enum-known-said enum-known-said-2 returns returns-2 returns-3)

@@ -1,0 +1,142 @@
+-- `questions::verdict::entry_said` meets its contract: what was said before a file is joined by what the files from there on say.
+use Prim.Native.Nat.{ℕ, _-_, _≤_}
+use native.Mathlib.Omega.{arith}
+use mathlib.Core.Path.{_≡_, sym, ap, _∙_}
+use mathlib.Core.Logic.{⊎-elim}
+use mathlib.Core.List.{List}
+use borrow.Author.Needs.{needs}
+use denote.Ref.{now}
+use lib.ListN.{length, drop, getD}
+use Rattle.wildmatch.proofs.Parts.{from}
+use Rattle.rulefiles.specs.RuleFiles.{filesFrom, linesOf, linesOfAll, orderedLines}
+use Rattle.rulefiles.specs.Last.{joined, lastSaid}
+use Rattle.ignorelines.specs.IgnoreLines.{ignoreWord}
+use Rattle.questions.specs.Verdicts.{verdict}
+use Rattle.questions.specs.Scan.{decisionOf, ignoreAt, lastInFile}
+use Rattle.questions.proofs.FileLaws.{fileAt, file-turn, files-end, bases-end}
+use Rattle.questions.proofs.VerdictLaws.{start-fits, entryOf, lines-begin, file-applies, file-passed, ignore-reads}
+use Rattle.questions.proofs.verdict.entry_said.Statement.{statement}
+use Rattle.questions.proofs.verdict.entry_said.Tie as tie
+
+abbrev Inv-loop : tie.InvT-loop
+Inv-loop rules ends bases entry directory fold at said₀ start₀ file₀ said start file =
+    (file ≤ length ends)
+    × (verdict fold (orderedLines rules ends bases) (entryOf entry directory) ≡ joined (decisionOf said) (lastSaid (ignoreWord fold (entryOf entry directory)) (linesOfAll (filesFrom file start rules (drop file ends) (drop file bases)))))
+
+abbrev μ-loop : tie.MeasureT-loop
+μ-loop rules ends bases entry directory fold at said₀ start₀ file₀ said start file = length ends - file
+
+-- after the test of the base: what the file says joins what was said
+chosen : (c : tie.Joined2 Inv-loop μ-loop)
+    → decisionOf (c .if2 .said)
+    ≡ joined (decisionOf (c .before .before .before .before .before .loop .said))
+    (lastSaid (ignoreWord (c .before .before .before .before .before .before .before .before .before .before .before .args .fold)
+    (entryOf (now (c .before .before .before .before .before .before .before .before .before .before .before .args .entry)) (c .before .before .before .before .before .before .before .before .before .before .before .args .directory)))
+    (linesOf (fileAt (now (c .before .before .before .before .before .before .before .before .before .before .before .args .rules)) (now (c .before .before .before .before .before .before .before .before .before .before .before .args .ends)) (now (c .before .before .before .before .before .before .before .before .before .before .before .args .bases))
+    (c .before .before .before .before .before .loop .file) (c .before .before .before .before .before .loop .start))))
+chosen c =
+    let l = c .before .before .before .before .before in
+    let n = l .before in
+    let a = n .before .before .before .before .before .args in
+    let base = getD (now (a .bases)) (l .loop .file) 0 in
+    let entry = now (a .entry) in
+    ⊎-elim
+    (λ w. file-applies (ignoreWord (a .fold) (entryOf entry (a .directory))) (ignoreAt (a .fold) (a .directory)) (a .directory) (now (a .rules)) (now (a .ends)) (now (a .bases)) entry (ignore-reads (a .fold) (a .directory) entry) (l .loop .file) (l .loop .start) (n .name-start .result)
+    (decisionOf (l .loop .said)) (decisionOf (c .if2 .said)) (w .0 .taken) (n .name-start .ensures)
+    (ap decisionOf (w .5) ∙ w .4 .ensures
+    ∙ ap (λ (u : List ℕ). joined (decisionOf (l .loop .said)) (lastInFile (ignoreAt (a .fold) (a .directory) (from base entry) (from (n .name-start .result) entry)) (l .loop .file) u (l .loop .start))) (w .1 .ensures)))
+    (λ w. file-passed (ignoreWord (a .fold) (entryOf entry (a .directory))) (ignoreAt (a .fold) (a .directory)) (a .directory) (now (a .rules)) (now (a .ends)) (now (a .bases)) entry (ignore-reads (a .fold) (a .directory) entry) (l .loop .file) (l .loop .start)
+    (decisionOf (l .loop .said)) (decisionOf (c .if2 .said)) (w .0 .left) (ap decisionOf (w .1)))
+    (c .if2 .came)
+
+name-start-requires : tie.Need-name-start-requires Inv-loop μ-loop
+name-start-requires c κs = search needs
+
+loop-holds : tie.Need-loop-holds Inv-loop μ-loop
+unfolding verdict
+loop-holds c = let a = c .before .before .before .before .before .args in (search needs, lines-begin (ignoreWord (a .fold) (entryOf (now (a .entry)) (a .directory))) (ignoreAt (a .fold) (a .directory)) (a .directory) (now (a .rules)) (now (a .ends)) (now (a .bases)) (now (a .entry)) (ignore-reads (a .fold) (a .directory) (now (a .entry))))
+
+returns : tie.Need-returns Inv-loop μ-loop
+returns c = let l = c .before .before in let a = l .before .before .before .before .before .before .args in sym (l .loop .inv .1 ∙ bases-end (ignoreWord (a .fold) (entryOf (now (a .entry)) (a .directory))) (now (a .rules)) (now (a .ends)) (now (a .bases)) (l .loop .file) (l .loop .start) (decisionOf (l .loop .said)) (c .if1 .taken))
+
+mul-end : tie.Need-mul-end Inv-loop μ-loop
+mul-end c = search needs
+
+shared-slice-read-end : tie.Need-shared-slice-read-end Inv-loop μ-loop
+shared-slice-read-end c = search needs
+
+mul-base : tie.Need-mul-base Inv-loop μ-loop
+mul-base c = search needs
+
+shared-slice-read-base : tie.Need-shared-slice-read-base Inv-loop μ-loop
+shared-slice-read-base c = search needs
+
+rules-upto-requires : tie.Need-rules-upto-requires Inv-loop μ-loop
+rules-upto-requires c κs = search needs
+
+sub-after-file : tie.Need-sub-after-file Inv-loop μ-loop
+sub-after-file c = omega (arith, c .before .if2 .taken)
+
+part-after-file-start : tie.Need-part-after-file-start Inv-loop μ-loop
+part-after-file-start c = omega (arith, c .before .if2 .taken)
+
+part-after-file-end : tie.Need-part-after-file-end Inv-loop μ-loop
+part-after-file-end c = omega arith
+
+sub-after-file-2 : tie.Need-sub-after-file-2 Inv-loop μ-loop
+sub-after-file-2 c = start-fits _ _ (c .before .before .before .before .before .before .before .before .name-start .ensures)
+
+part-after-file-start-2 : tie.Need-part-after-file-start-2 Inv-loop μ-loop
+part-after-file-start-2 c = start-fits _ _ (c .before .before .before .before .before .before .before .before .name-start .ensures)
+
+part-after-file-end-2 : tie.Need-part-after-file-end-2 Inv-loop μ-loop
+part-after-file-end-2 c = omega arith
+
+after-file-requires : tie.Need-after-file-requires Inv-loop μ-loop
+after-file-requires c κs = search needs
+
+add-file : tie.Need-add-file Inv-loop μ-loop
+add-file c = search needs
+
+loop-less : tie.Need-loop-less Inv-loop μ-loop
+loop-less c = search needs
+
+loop-again : tie.Need-loop-again Inv-loop μ-loop
+loop-again c =
+    let l = c .before .before .before .before .before in
+    let a = l .before .before .before .before .before .before .args in
+    let t = c .before .before .before .before .loop-test .taken in (
+      omega (arith, t),
+      l .loop .inv .1
+          ∙ file-turn (ignoreWord (a .fold) (entryOf (now (a .entry)) (a .directory))) (now (a .rules)) (now (a .ends)) (now (a .bases)) (l .loop .file) (l .loop .start)
+          (decisionOf (l .loop .said)) (decisionOf (c .if2 .said)) t (c .before .before .before .if1 .left) (chosen c),
+    )
+
+returns-2 : tie.Need-returns-2 Inv-loop μ-loop
+returns-2 c = let l = c .before in let a = l .before .before .before .before .before .before .args in sym (l .loop .inv .1 ∙ files-end (ignoreWord (a .fold) (entryOf (now (a .entry)) (a .directory))) (now (a .rules)) (now (a .ends)) (now (a .bases)) (l .loop .file) (l .loop .start) (decisionOf (l .loop .said)) (c .loop-test .left))
+
+pub entry-said-spec : {M : Type 1} → statement M
+entry-said-spec =
+    tie.close
+    (tie.spec
+    Inv-loop
+    μ-loop
+    name-start-requires
+    loop-holds
+    returns
+    mul-end
+    shared-slice-read-end
+    mul-base
+    shared-slice-read-base
+    rules-upto-requires
+    sub-after-file
+    part-after-file-start
+    part-after-file-end
+    sub-after-file-2
+    part-after-file-start-2
+    part-after-file-end-2
+    after-file-requires
+    add-file
+    loop-less
+    loop-again
+    returns-2)

@@ -1,0 +1,72 @@
+// The attribute question.
+ghost use mathlib.Core.Path.{_≡_};
+ghost use Rattle.questions.specs.Answers.{spoken, AttributeAnswered, stateCode, attributeCode};
+ghost use Rattle.questions.specs.Scan.{heardOf};
+use crate::AttributeAnswer;
+use crate::state::Heard;
+use crate::state::path_heard;
+use attributelines::State;
+use refusals::lowest::attribute_refusal;
+use wildmatch::answer::has_flag;
+
+// What was heard, as an answer.
+fn spoken(heard: Heard) -> AttributeAnswer
+    ensures { λ r. ⌜ r ≡ spoken (heardOf heard) ⌝ }
+{
+    match heard {
+        Heard::Nothing => AttributeAnswer::Nothing,
+        Heard::Said(s) => AttributeAnswer::Said(s),
+    }
+}
+
+// The attribute question over all lent files. Flags: 1 = directory, 2 = fold case.
+pub fn attribute(
+    path: &[u8],
+    rules: &[u8],
+    ends: &[usize],
+    bases: &[usize],
+    name: &[u8],
+    flags: u64,
+) -> AttributeAnswer
+    ensures { λ r. ⌜ AttributeAnswered (now (path .entry)) (now (rules .entry)) (now (ends .entry)) (now (bases .entry)) (now (name .entry)) flags r ⌝ }
+{
+    let refusal = attribute_refusal(path, rules, ends, bases, name, flags);
+    if refusal != 0 {
+        return AttributeAnswer::Refused(refusal);
+    }
+    spoken(path_heard(
+        rules,
+        ends,
+        bases,
+        path,
+        name,
+        has_flag(flags, 1),
+        has_flag(flags, 2),
+    ))
+}
+
+// The number that C gets for a state.
+fn state_code(state: State) -> u32
+    ensures { λ r. ⌜ r ≡ stateCode state ⌝ }
+{
+    match state {
+        State::Set => 1,
+        State::Unset => 2,
+        State::Value(_) => 3,
+        State::Unspecified => 4,
+    }
+}
+
+// The number that C gets for an answer.
+pub fn attribute_code(answer: AttributeAnswer) -> u32
+    ensures { λ r. ⌜ r ≡ attributeCode answer ⌝ }
+{
+    match answer {
+        AttributeAnswer::Nothing => 0,
+        AttributeAnswer::Said(s) => {
+            let state = s.state;
+            state_code(state)
+        }
+        AttributeAnswer::Refused(n) => 16 + (n as u32),
+    }
+}

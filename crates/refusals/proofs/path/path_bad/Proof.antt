@@ -1,0 +1,85 @@
+-- `refusals::path::path_bad` meets its contract. The slashes not yet passed decide whether a bad component follows one.
+use Rattle.refusals.specs.Questions.{BadPath}
+use Rattle.refusals.specs.Scans.{badLater}
+use Rattle.refusals.proofs.Says.{says, denies, said-false}
+use Rattle.refusals.proofs.ScanLaws.{later-here, later-fine, later-plain, later-past}
+use Rattle.refusals.proofs.ComponentLaws.{bad-start, bad-later, good-path}
+use mathlib.Core.Path.{_≡_, refl, sym, _∙_}
+use mathlib.Core.Logic.{inl, inr, ⊎-elim}
+use Prim.Native.Nat.{_-_}
+use lib.ListN.{length, drop}
+use borrow.Author.Needs.{needs}
+use native.Mathlib.Omega.{arith}
+use Rattle.refusals.proofs.path.path_bad.Statement.{statement}
+use Rattle.refusals.proofs.path.path_bad.Tie as tie
+
+abbrev Inv-loop : tie.InvT-loop
+Inv-loop path i₀ i = badLater path ≡ badLater (drop i path)
+
+abbrev μ-loop : tie.MeasureT-loop
+μ-loop path i₀ i = length path - i
+
+returns : tie.Need-returns Inv-loop μ-loop
+unfolding BadPath
+returns c = says (inr (inl (c .if1 .taken)))
+
+holds-zero-requires : tie.Need-holds-zero-requires Inv-loop μ-loop
+holds-zero-requires c κs = search needs
+
+returns-2 : tie.Need-returns-2 Inv-loop μ-loop
+unfolding BadPath
+returns-2 c = says (inr (inr (inl (c .before .holds-zero .ensures .0 (c .if2 .taken)))))
+
+bad-here-requires : tie.Need-bad-here-requires Inv-loop μ-loop
+bad-here-requires c κs = search needs
+
+returns-3 : tie.Need-returns-3 Inv-loop μ-loop
+returns-3 c = says (bad-start _ (sym (c .before .bad-here .ensures) ∙ c .if3 .taken))
+
+loop-holds : tie.Need-loop-holds Inv-loop μ-loop
+loop-holds c = refl
+
+shared-slice-read-if4 : tie.Need-shared-slice-read-if4 Inv-loop μ-loop
+shared-slice-read-if4 c = omega arith
+
+add-bad-here : tie.Need-add-bad-here Inv-loop μ-loop
+add-bad-here c = omega arith
+
+bad-here-requires-2 : tie.Need-bad-here-requires-2 Inv-loop μ-loop
+bad-here-requires-2 c κs = search needs
+
+returns-4 : tie.Need-returns-4 Inv-loop μ-loop
+returns-4 c = says (bad-later _ (c .before .before .before .before .before .loop .inv ∙ later-here _ _ (c .before .before .before .before .loop-test .taken) (c .before .before .if4 .taken) (sym (c .before .bad-here2 .ensures) ∙ c .if5 .taken)))
+
+add-i : tie.Need-add-i Inv-loop μ-loop
+add-i c = omega arith
+
+loop-less : tie.Need-loop-less Inv-loop μ-loop
+loop-less c = omega arith
+
+loop-again : tie.Need-loop-again Inv-loop μ-loop
+loop-again c = c .before .before .before .loop .inv ∙ ⊎-elim (λ w. later-fine _ _ (c .before .before .loop-test .taken) (w .0 .taken) (sym (w .1 .ensures) ∙ w .2 .left)) (λ w. later-plain _ _ (c .before .before .loop-test .taken) (w .left)) (c .if4 .came)
+
+returns-5 : tie.Need-returns-5 Inv-loop μ-loop
+returns-5 c = denies (good-path _ (c .before .before .before .before .before .before .if1 .left) (said-false (c .before .before .before .before .before .holds-zero .ensures) (c .before .before .before .before .if2 .left)) (sym (c .before .before .before .bad-here .ensures) ∙ c .before .before .if3 .left) (c .before .loop .inv ∙ later-past _ _ (c .loop-test .left)))
+
+pub path-bad-spec : {M : Type 1} → statement M
+path-bad-spec =
+    tie.close
+    (tie.spec
+    Inv-loop
+    μ-loop
+    returns
+    holds-zero-requires
+    returns-2
+    bad-here-requires
+    returns-3
+    loop-holds
+    shared-slice-read-if4
+    add-bad-here
+    bad-here-requires-2
+    returns-4
+    add-i
+    loop-less
+    loop-again
+    returns-5)

@@ -1,0 +1,5 @@
+-- What a reader must believe:
+pub mod RuleFiles
+pub mod Last
+-- Proved of it:
+pub mod LastMeaning

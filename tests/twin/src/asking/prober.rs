@@ -1,0 +1,137 @@
+//! The questions over several files, with their complete answers.
+use super::lent::Lent;
+use super::Asks;
+use crate::reader::{Answer, Question};
+
+extern "C" {
+    fn prober_ignore(
+        path: *const u8,
+        path_len: usize,
+        rules: *const u8,
+        rules_len: usize,
+        ends: *const usize,
+        ends_len: usize,
+        bases: *const usize,
+        bases_len: usize,
+        flags: u64,
+        out: *mut usize,
+        out_len: usize,
+    ) -> u32;
+    fn prober_attribute(
+        path: *const u8,
+        path_len: usize,
+        rules: *const u8,
+        rules_len: usize,
+        ends: *const usize,
+        ends_len: usize,
+        bases: *const usize,
+        bases_len: usize,
+        name: *const u8,
+        name_len: usize,
+        flags: u64,
+        out: *mut usize,
+        out_len: usize,
+    ) -> u32;
+}
+
+/// What the places of the answer hold before the call. No answer can hold it:
+/// it is larger than any length or number.
+const UNTOUCHED: usize = usize::MAX - 77;
+
+/// Where everything is lent.
+struct Places<'a> {
+    path: &'a [u8],
+    rules: &'a [u8],
+    ends: &'a [usize],
+    bases: &'a [usize],
+    name: Option<&'a [u8]>,
+}
+
+pub struct Prober {
+    lent: Lent,
+}
+
+impl Default for Prober {
+    fn default() -> Prober {
+        Prober::new()
+    }
+}
+
+impl Prober {
+    pub fn new() -> Prober {
+        Prober { lent: Lent::new() }
+    }
+}
+
+impl Asks for Prober {
+    const COMPLETE: bool = true;
+
+    fn ask(&mut self, question: &Question) -> Answer {
+        self.lent.lend(question);
+        let Lent { path, rules, ends, bases, name, .. } = &self.lent;
+        let places = Places {
+            path: path.bytes(),
+            rules: rules.bytes(),
+            ends: ends.numbers(),
+            bases: bases.numbers(),
+            name: question.name.as_ref().map(|_| name.bytes()),
+        };
+        ask(places, question.flags)
+    }
+
+    fn ask_bare(&mut self, question: &Question) -> Answer {
+        let Question { path, rules, ends, bases, name, flags } = question;
+        ask(Places { path, rules, ends, bases, name: name.as_deref() }, *flags)
+    }
+}
+
+fn ask(places: Places, flags: u64) -> Answer {
+    // Two places more than asked for, on each side, show a stray write.
+    let mut out = [UNTOUCHED; 8];
+    let count = if places.name.is_some() { 4 } else { 3 };
+    let code = call(places, flags, &mut out[2..2 + count]);
+    let said = (1..16).contains(&code);
+    let stray = out.iter().enumerate().any(|(i, &x)| x != UNTOUCHED && !(said && (2..2 + count).contains(&i)));
+    let numbers = match (said, stray) {
+        (_, true) => out.to_vec(), // differs from every answer
+        (true, false) => out[2..2 + count].to_vec(),
+        (false, false) => Vec::new(),
+    };
+    Answer { code, numbers }
+}
+
+fn call(places: Places, flags: u64, out: &mut [usize]) -> u32 {
+    let Places { path, rules, ends, bases, name } = places;
+    unsafe {
+        match name {
+            None => prober_ignore(
+                path.as_ptr(),
+                path.len(),
+                rules.as_ptr(),
+                rules.len(),
+                ends.as_ptr(),
+                ends.len(),
+                bases.as_ptr(),
+                bases.len(),
+                flags,
+                out.as_mut_ptr(),
+                out.len(),
+            ),
+            Some(name) => prober_attribute(
+                path.as_ptr(),
+                path.len(),
+                rules.as_ptr(),
+                rules.len(),
+                ends.as_ptr(),
+                ends.len(),
+                bases.as_ptr(),
+                bases.len(),
+                name.as_ptr(),
+                name.len(),
+                flags,
+                out.as_mut_ptr(),
+                out.len(),
+            ),
+        }
+    }
+}

@@ -1,0 +1,114 @@
+//! Random paths from a small alphabet, and patterns that often match them.
+use crate::random::Random;
+
+/// Components: plain ones mostly, so that lines and paths meet often; then
+/// those that a line must escape, or that nearly are something else.
+const COMMON: [&str; 8] = ["a", "b", "ab", "ba", "a.b", "A", "aB", "abc"];
+const ODD: [&[u8]; 26] = [
+    b"...",
+    b".a",
+    b"a.",
+    b"a ",
+    b" a",
+    b" ",
+    b"\t",
+    b"a\t",
+    b"#a",
+    b" #a",
+    b"!a",
+    b"!",
+    b"#",
+    b"\\",
+    b"a\\",
+    b"[a]",
+    b"*",
+    b"?a",
+    b"a\r",
+    b"\"a\"",
+    b"[attr]a",
+    b"\xef\xbb\xbfa",
+    b"\xef\xbb\xbf",
+    b"\xc3\xa9",
+    b"a\nb",
+    b"-",
+];
+
+pub type Words = Vec<Vec<u8>>;
+
+/// The components of a path.
+pub fn components(random: &mut Random) -> Words {
+    let most = if random.chance(4) { 14 } else { 4 };
+    (0..random.from(1, most)).map(|_| component(random)).collect()
+}
+
+fn component(random: &mut Random) -> Vec<u8> {
+    match random.below(100) {
+        0..=87 => random.pick(&COMMON).as_bytes().to_vec(),
+        88..=97 => random.word(&ODD).to_vec(),
+        _ => (0..random.from(1, 9)).map(|_| *random.pick(b"ab.AB")).collect(),
+    }
+}
+
+/// A pattern for what follows the base, as often as not one that matches the
+/// path or one of its parents.
+pub fn pattern(random: &mut Random, below_base: &[Vec<u8>]) -> Vec<u8> {
+    if random.chance(4) {
+        let pair = crate::grammar::pair(random);
+        return pair.pattern.into_iter().filter(|&x| x != b'\n').collect();
+    }
+    let upto = random.from(1, below_base.len());
+    let words = &below_base[..upto];
+    let mut pattern =
+        if random.chance(50) { component_pattern(random, words.last().unwrap()) } else { anchored(random, words) };
+    if random.chance(6) {
+        crate::grammar::mutate(random, &mut pattern);
+    }
+    pattern
+}
+
+/// The components joined; some give way to `**`.
+fn anchored(random: &mut Random, words: &[Vec<u8>]) -> Vec<u8> {
+    let mut parts: Words = Vec::new();
+    for word in words {
+        let crossed = parts.last().is_some_and(|last| last == b"**");
+        match random.below(10) {
+            0..=1 if !crossed => parts.push(b"**".to_vec()),
+            0..=1 => {} // the `**` before takes this one too
+            2 => parts.extend([b"**".to_vec(), component_pattern(random, word)]),
+            _ => parts.push(component_pattern(random, word)),
+        }
+    }
+    let front: &[u8] = match random.below(10) {
+        0..=4 => b"/",
+        5 => b"**/",
+        6 if words.len() == 1 => b"//",
+        _ => b"",
+    };
+    [front, &parts.join(&b"/"[..])].concat()
+}
+
+/// One component as a pattern that takes it, or nearly.
+fn component_pattern(random: &mut Random, word: &[u8]) -> Vec<u8> {
+    let (first, rest) = word.split_first().expect("a component has bytes");
+    match random.below(22) {
+        0..=7 => word.to_vec(),
+        8 => escaped(word),
+        9 => b"*".to_vec(),
+        10 => vec![b'?'; word.len()],
+        11 => [&[*first], &b"*"[..]].concat(),
+        12 => [b"*", rest].concat(),
+        13 => [b"[ab]", rest].concat(),
+        14 => [b"[!b]", rest].concat(),
+        15 => [b"[[:alpha:]]", rest].concat(),
+        16 => [&b"[A-Z"[..], &[*first], b"]*"].concat(),
+        17 => [b"**", rest].concat(),
+        18 => [&[*first], &b"***"[..]].concat(),
+        19 => word.to_ascii_uppercase(),
+        20 => word.to_ascii_lowercase(),
+        _ => random.pick(&COMMON).as_bytes().to_vec(),
+    }
+}
+
+fn escaped(word: &[u8]) -> Vec<u8> {
+    word.iter().flat_map(|&x| [b'\\', x]).collect()
+}
