@@ -9,7 +9,7 @@ use Rattle.rulefiles.specs.Last.{joined}
 use Rattle.rulefiles.proofs.LastLaws.{joined-assoc, joined-none}
 use Rattle.rulefiles.proofs.PartLaws.{upto-part}
 use Rattle.refusals.specs.Questions.{goodName}
-use Rattle.entries.specs.Entries.{textsMatch}
+use Rattle.entries.specs.Entries.{patternMatches}
 use Rattle.attributelines.specs.AttributeLines.{Piece, Mention, mention, same, stateFor, goodNames, lastMention, pieces, patternDropped, ruleState, bytesState}
 use Rattle.attributelines.specs.Scan.{blankLength, wordLength, mentionsState}
 use Rattle.attributelines.specs.declared.State.{State}
@@ -74,12 +74,12 @@ module _ (attribute s : List ℕ) (i start end : ℕ) (before : Option State) (n
       ∙ pending-other attribute before word (pieces end (drop end s)) (ap goodName (sym n) ∙ sym g ∙ b) (ap (λ (x : List ℕ). same x attribute) (sym n) ∙ sym a ∙ t)
 
 -- the whole line: no words, a dropped pattern, one that does not match, one that does
-module _ (fold directory : Bool) (rest name attribute : List ℕ) (at : ℕ) (bytes : List ℕ) where
-  pub line-empty : pieces at bytes ≡ [] → none ≡ bytesState fold directory rest name attribute at bytes
+module _ (fold directory : Bool) (rest component attribute : List ℕ) (at : ℕ) (bytes : List ℕ) where
+  pub line-empty : pieces at bytes ≡ [] → none ≡ bytesState fold directory rest component attribute at bytes
   unfolding bytesState
   line-empty e = rw e
 
-  pub line-dropped : (p : Piece) (ws : List Piece) → pieces at bytes ≡ p ∷ ws → patternDropped (p .bytes) ≡ true → none ≡ bytesState fold directory rest name attribute at bytes
+  pub line-dropped : (p : Piece) (ws : List Piece) → pieces at bytes ≡ p ∷ ws → patternDropped (p .bytes) ≡ true → none ≡ bytesState fold directory rest component attribute at bytes
   unfolding bytesState ruleState
   line-dropped p ws e d = rw (e, d)
 
@@ -87,11 +87,11 @@ module _ (fold directory : Bool) (rest name attribute : List ℕ) (at : ℕ) (by
   either-none true = refl
   either-none false = refl
 
-  pub line-other : (p : Piece) (ws : List Piece) → pieces at bytes ≡ p ∷ ws → patternDropped (p .bytes) ≡ false → textsMatch fold directory rest name (p .bytes) ≡ false → none ≡ bytesState fold directory rest name attribute at bytes
+  pub line-other : (p : Piece) (ws : List Piece) → pieces at bytes ≡ p ∷ ws → patternDropped (p .bytes) ≡ false → patternMatches fold directory rest component (p .bytes) ≡ false → none ≡ bytesState fold directory rest component attribute at bytes
   unfolding bytesState ruleState
   line-other p ws e d m = rw (e, d, m) (either-none (goodNames ws))
 
-  pub line-matched : (p : Piece) (ws : List Piece) (o : Option State) → pieces at bytes ≡ p ∷ ws → patternDropped (p .bytes) ≡ false → textsMatch fold directory rest name (p .bytes) ≡ true
-      → o ≡ mentionsState attribute ws → o ≡ bytesState fold directory rest name attribute at bytes
+  pub line-matched : (p : Piece) (ws : List Piece) (o : Option State) → pieces at bytes ≡ p ∷ ws → patternDropped (p .bytes) ≡ false → patternMatches fold directory rest component (p .bytes) ≡ true
+      → o ≡ mentionsState attribute ws → o ≡ bytesState fold directory rest component attribute at bytes
   unfolding bytesState ruleState mentionsState
   line-matched p ws o e d m q = rw (e, d, m) q

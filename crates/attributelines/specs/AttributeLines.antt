@@ -8,7 +8,7 @@ use lib.ListN.{length, take, drop}
 use Rattle.rulefiles.specs.RuleFiles.{Line}
 use Rattle.rulefiles.specs.Last.{joined}
 use Rattle.refusals.specs.Questions.{goodName}
-use Rattle.entries.specs.Entries.{Entry, begins, has, before, applies, textsMatch, restOf, nameOf}
+use Rattle.entries.specs.Entries.{Entry, firstIs, has, before, applies, patternMatches, restOf, componentOf}
 use Rattle.attributelines.specs.declared.State.{State}
 use Rattle.attributelines.specs.declared.State.the-variants.{Set, Unset, Value, Unspecified}
 use Rattle.attributelines.specs.declared.Word.{Word}
@@ -62,8 +62,8 @@ plainMention at w =
 -- "`-name` unsets, `!name` makes unspecified .. after `-` or `!` an `=v` is ignored"
 unfoldable pub mention : ℕ → List ℕ → Mention
 mention at w =
-    cond (begins 45 w) (record { name = nameIn (drop 1 w); state = Unset })
-    (cond (begins 33 w) (record { name = nameIn (drop 1 w); state = Unspecified })
+    cond (firstIs 45 w) (record { name = nameIn (drop 1 w); state = Unset })
+    (cond (firstIs 33 w) (record { name = nameIn (drop 1 w); state = Unspecified })
     (plainMention at w))
 
 -- no mention has a bad name: "any attribute on it has a bad name"
@@ -83,7 +83,7 @@ definition p = beginsWith (91 ∷ 97 ∷ 116 ∷ 116 ∷ 114 ∷ 93 ∷ []) p &&
 
 -- "skip .. one beginning `#`"; "dropped whole if its pattern begins with `!` or `"`, or with `[attr]` and at least one more byte"
 unfoldable pub patternDropped : List ℕ → Bool
-patternDropped p = begins 35 p || (begins 33 p || (begins 34 p || definition p))
+patternDropped p = firstIs 35 p || (firstIs 33 p || (firstIs 34 p || definition p))
 
 -- the two are the same bytes
 abbrev pub same : List ℕ → List ℕ → Bool
@@ -101,24 +101,24 @@ abbrev pub lastMention : List ℕ → List Piece → Option State
 lastMention name [] = none
 lastMention name (w ∷ ws) = joined (stateFor name (mention (w .start) (w .bytes))) (lastMention name ws)
 
--- a pattern and the mentions after it, for an entry with this rest and name. "dropped whole .. if any attribute on it has a bad name"
+-- a pattern and the mentions after it, for an entry with this rest and component. "dropped whole .. if any attribute on it has a bad name"
 unfoldable pub ruleState : Bool → Bool → List ℕ → List ℕ → List ℕ → List ℕ → List Piece → Option State
-ruleState fold directory rest name attribute p ws =
-    cond (patternDropped p) none (cond (goodNames ws) (cond (textsMatch fold directory rest name p) (lastMention attribute ws) none) none)
+ruleState fold directory rest component attribute p ws =
+    cond (patternDropped p) none (cond (goodNames ws) (cond (patternMatches fold directory rest component p) (lastMention attribute ws) none) none)
 
 -- the pieces of a line. "skip an empty line"; "The pattern runs to the next blank."
 abbrev pub piecesState : Bool → Bool → List ℕ → List ℕ → List ℕ → List Piece → Option State
-piecesState fold directory rest name attribute [] = none
-piecesState fold directory rest name attribute (p ∷ ws) = ruleState fold directory rest name attribute (p .bytes) ws
+piecesState fold directory rest component attribute [] = none
+piecesState fold directory rest component attribute (p ∷ ws) = ruleState fold directory rest component attribute (p .bytes) ws
 
 -- what the bytes of a line, at a place of the rule bytes, say of an attribute
 unfoldable pub bytesState : Bool → Bool → List ℕ → List ℕ → List ℕ → ℕ → List ℕ → Option State
-bytesState fold directory rest name attribute at bytes = piecesState fold directory rest name attribute (pieces at bytes)
+bytesState fold directory rest component attribute at bytes = piecesState fold directory rest component attribute (pieces at bytes)
 
 -- what a line says of an attribute of an entry, if its file applies
 unfoldable pub attributeWord : Bool → Entry → List ℕ → Line → Option State
 attributeWord fold e attribute l =
-    cond (applies (l .base) e) (bytesState fold (e .directory) (restOf (l .base) e) (nameOf e) attribute (l .start) (l .bytes)) none
+    cond (applies (l .base) e) (bytesState fold (e .directory) (restOf (l .base) e) (componentOf e) attribute (l .start) (l .bytes)) none
 
 -- what the code's word stands for
 abbrev pub stateOf : Word → Option State

@@ -93,17 +93,17 @@ fn mentions_word(text: &[u8], from: usize, attribute: &[u8]) -> Word
 }
 
 // What the line that starts at a place of the text, and ends with it, says of the attribute: the rest is the entry from the base on, the
-// name its last component.
+// component its last one.
 pub fn line_word(
     text: &[u8],
     at: usize,
     attribute: &[u8],
     rest: &[u8],
-    name: &[u8],
+    component: &[u8],
     directory: bool,
     fold: bool,
 ) -> Word
-    ensures { λ r. ⌜ stateOf r ≡ bytesState fold directory (now (rest .entry)) (now (name .entry)) (now (attribute .entry)) at (drop at (now (text .entry))) ⌝ }
+    ensures { λ r. ⌜ stateOf r ≡ bytesState fold directory (now (rest .entry)) (now (component .entry)) (now (attribute .entry)) at (drop at (now (text .entry))) ⌝ }
 {
     let start = blanks_end(text, at);
     if text.len() <= start {
@@ -113,7 +113,7 @@ pub fn line_word(
     if pattern_dropped(&text[start..end]) {
         return Word::Silent;
     }
-    if pattern_matches(&text[start..end], rest, name, directory, fold) {
+    if pattern_matches(&text[start..end], rest, component, directory, fold) {
         return mentions_word(text, end, attribute);
     }
     Word::Silent

@@ -9,7 +9,7 @@ use lib.Dec.{eqb}
 use lib.ListN.{length, take, drop, getD, length-drop, drop-of-length-le}
 use lib.Seq.{drop-cons}
 use borrow.Author.Tests.{eq-eqb, ne-eqb, eqb-true}
-use Rattle.entries.specs.Entries.{begins, ends, has, front, lastComponent, nameStart}
+use Rattle.entries.specs.Entries.{firstIs, lastIs, has, front, lastComponent, componentStart}
 
 or-right : (a : Bool) {b : Bool} → b ≡ true → (a || b) ≡ true
 or-right true e = refl
@@ -29,12 +29,12 @@ pub has-none : (b : ℕ) (s : List ℕ) (i : ℕ) → length s ≤ i → has b (
 has-none b s i h = rw (drop-of-length-le s {i = i} h)
 
 -- the first byte
-pub begins-at : (b : ℕ) (s : List ℕ) → 0 < length s → begins b s ≡ eqb (getD s 0 0) b
+pub begins-at : (b : ℕ) (s : List ℕ) → 0 < length s → firstIs b s ≡ eqb (getD s 0 0) b
 begins-at b [] h = absurd (omega arith)
 begins-at b (x ∷ s) h = refl
 
 -- the last byte
-pub ends-last : (b : ℕ) (s : List ℕ) (n : ℕ) → length s ≡ suc n → ends b s ≡ eqb (getD s n 0) b
+pub ends-last : (b : ℕ) (s : List ℕ) (n : ℕ) → length s ≡ suc n → lastIs b s ≡ eqb (getD s n 0) b
 ends-last b [] n h = absurd (omega arith)
 ends-last b (x ∷ []) zero h = refl
 ends-last b (x ∷ []) (suc n) h = absurd (omega arith)
@@ -68,8 +68,8 @@ within : (s : List ℕ) (i : ℕ) → After s i → i ≤ length s
 within s zero a = omega arith
 within s (suc i) a = omega (arith, a .0)
 
-pub start-at : (s : List ℕ) (i : ℕ) → has 47 (drop i s) ≡ false → After s i → nameStart s ≡ i
-unfolding nameStart
+pub start-at : (s : List ℕ) (i : ℕ) → has 47 (drop i s) ≡ false → After s i → componentStart s ≡ i
+unfolding componentStart
 start-at s i h a =
     let e : length (lastComponent s) ≡ length s - i = ap length (component-at s i h a) ∙ length-drop i s in
     let l : i ≤ length s = within s i a in
@@ -89,15 +89,15 @@ no-slash (x ∷ s) = go (has 47 (x ∷ s)) refl (no-slash s)
     go true e (zero, h, a) = (1, h, (omega arith, eqb-true x 47 (left-true (eqb x 47) (has 47 s) e h)))
     go true e (suc i, h, a) = (suc (suc i), h, (omega (arith, a .0), a .1))
 
-pub component-whole : (s : List ℕ) → lastComponent s ≡ drop (nameStart s) s
+pub component-whole : (s : List ℕ) → lastComponent s ≡ drop (componentStart s) s
 component-whole s = let w = no-slash s in component-at s (w .0) (w .1) (w .2) ∙ ap (λ (n : ℕ). drop n s) (sym (start-at s (w .0) (w .1) (w .2)))
 
 -- The same where the place is counted down.
-pub start-found : (s : List ℕ) (i : ℕ) → 0 < i → i ≤ length s → has 47 (drop i s) ≡ false → getD s (i - 1) 0 ≡ 47 → nameStart s ≡ i
+pub start-found : (s : List ℕ) (i : ℕ) → 0 < i → i ≤ length s → has 47 (drop i s) ≡ false → getD s (i - 1) 0 ≡ 47 → componentStart s ≡ i
 start-found s zero p l h e = absurd (omega arith)
 start-found s (suc i) p l h e = let m : suc i - 1 ≡ i = omega arith in start-at s (suc i) h (omega arith, ap (λ (n : ℕ). getD s n 0) (sym m) ∙ e)
 
-pub start-none : (s : List ℕ) (i : ℕ) → i ≤ 0 → has 47 (drop i s) ≡ false → nameStart s ≡ 0
+pub start-none : (s : List ℕ) (i : ℕ) → i ≤ 0 → has 47 (drop i s) ≡ false → componentStart s ≡ 0
 start-none s zero l h = start-at s 0 h tt
 start-none s (suc i) l h = absurd (omega arith)
 
@@ -105,5 +105,5 @@ pub none-before : (b : ℕ) (s : List ℕ) (i : ℕ) → 0 < i → i ≤ length 
 none-before b s i p l n h = let m : i - 1 + 1 ≡ i = omega arith in has-next b s (i - 1) (omega arith) n ∙ ap (λ (k : ℕ). has b (drop k s)) m ∙ h
 
 -- the last component's start, as a place
-pub start-place : (s : List ℕ) → (has 47 (drop (nameStart s) s) ≡ false) × After s (nameStart s)
+pub start-place : (s : List ℕ) → (has 47 (drop (componentStart s) s) ≡ false) × After s (componentStart s)
 start-place s = let w = no-slash s in subst (λ (n : ℕ). (has 47 (drop n s) ≡ false) × After s n) (sym (start-at s (w .0) (w .1) (w .2))) (w .1, w .2)

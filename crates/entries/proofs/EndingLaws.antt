@@ -60,12 +60,12 @@ ends-two c p n o b e =
 
 -- What it excludes.
 
-module _ (fold : Bool) (rest name : List ℕ) where
-  pub excludes-none : (p : List ℕ) → Excludes fold rest name p false
+module _ (fold : Bool) (rest component : List ℕ) where
+  pub excludes-none : (p : List ℕ) → Excludes fold rest component p false
   unfolding Excludes
   excludes-none p e = absurd (false≢true e)
 
-  pub bare-excluded : (p : List ℕ) (r : Bool) → Excludes fold rest name p r → r ≡ true → false ≡ bareMatches fold rest name p
+  pub bare-excluded : (p : List ℕ) (r : Bool) → Excludes fold rest component p r → r ≡ true → false ≡ bareMatches fold rest component p
   unfolding Excludes
   bare-excluded p r h e = sym (h e)
 
@@ -74,29 +74,29 @@ module _ (fold : Bool) (rest name : List ℕ) where
     no-match path p t h e =
         false-if-not _ (λ w. not-both (taken-end fold c t (end-taken c plain (record { path = path; fold = fold }) p t h w)) e)
 
-    module _ (r : endTaken fold c rest ≡ false) (n : endTaken fold c name ≡ false) where
-      no-text : (path : Bool) (p : List ℕ) → EndsIn c p → matchesTest (record { path = path; fold = fold }) p (cond path rest name) ≡ false
+    module _ (r : endTaken fold c rest ≡ false) (n : endTaken fold c component ≡ false) where
+      no-text : (path : Bool) (p : List ℕ) → EndsIn c p → matchesTest (record { path = path; fold = fold }) p (cond path rest component) ≡ false
       no-text true p h = no-match true p rest h r
-      no-text false p h = no-match false p name h n
+      no-text false p h = no-match false p component h n
 
-      excluded : (p : List ℕ) → EndsIn c p → bareMatches fold rest name p ≡ false
+      excluded : (p : List ℕ) → EndsIn c p → bareMatches fold rest component p ≡ false
       unfolding bareMatches
       excluded [] h = absurd h
       excluded (x ∷ []) h = go (eqb x 47) (has 47 (x ∷ []))
         where
-          go : (b path : Bool) → not (isEmpty (cond b [] (x ∷ []))) && matchesTest (record { path = path; fold = fold }) (cond b [] (x ∷ [])) (cond path rest name) ≡ false
+          go : (b path : Bool) → not (isEmpty (cond b [] (x ∷ []))) && matchesTest (record { path = path; fold = fold }) (cond b [] (x ∷ [])) (cond path rest component) ≡ false
           go true path = refl
           go false path = no-text path (x ∷ []) h
       excluded (x ∷ y ∷ p) h = go (eqb x 47) (has 47 (x ∷ y ∷ p))
         where
-          go : (b path : Bool) → not (isEmpty (cond b (y ∷ p) (x ∷ y ∷ p))) && matchesTest (record { path = path; fold = fold }) (cond b (y ∷ p) (x ∷ y ∷ p)) (cond path rest name) ≡ false
+          go : (b path : Bool) → not (isEmpty (cond b (y ∷ p) (x ∷ y ∷ p))) && matchesTest (record { path = path; fold = fold }) (cond b (y ∷ p) (x ∷ y ∷ p)) (cond path rest component) ≡ false
           go true path = no-text path (y ∷ p) (ends-tail c x y p h)
           go false path = no-text path (x ∷ y ∷ p) h
 
-      pub excludes-one : (p : List ℕ) → length p ≡ 1 → getD p (length p - 1) 0 ≡ c → Excludes fold rest name p true
+      pub excludes-one : (p : List ℕ) → length p ≡ 1 → getD p (length p - 1) 0 ≡ c → Excludes fold rest component p true
       unfolding Excludes
       excludes-one p l e w = excluded p (ends-one c p l e)
 
-      pub excludes-two : (p : List ℕ) → (length p ≡ 0 → ⊥) → (length p ≡ 1 → ⊥) → getD p (length p - 1) 0 ≡ c → Excludes fold rest name p (not (eqb (getD p (length p - 2) 0) 92))
+      pub excludes-two : (p : List ℕ) → (length p ≡ 0 → ⊥) → (length p ≡ 1 → ⊥) → getD p (length p - 1) 0 ≡ c → Excludes fold rest component p (not (eqb (getD p (length p - 2) 0) 92))
       unfolding Excludes
       excludes-two p l o e w = excluded p (ends-two c p l o (eqb-false _ _ (not-true _ w)) e)

@@ -12,6 +12,6 @@ use Rattle.entries.specs.Entries.{isEmpty, bareMatches}
 unfoldable pub endTaken : Bool → ℕ → List ℕ → Bool
 endTaken fold c t = not (isEmpty t) && folded fold (λ y. eqb y c) (getD t (length t - 1) 0)
 
--- where the answer is yes, the pattern matches neither the rest nor the name, whichever it is matched against
+-- where the answer is yes, the pattern matches neither the rest nor the component, whichever it is matched against
 unfoldable pub Excludes : Bool → List ℕ → List ℕ → List ℕ → Bool → Type 0
-Excludes fold rest name p r = r ≡ true → bareMatches fold rest name p ≡ false
+Excludes fold rest component p r = r ≡ true → bareMatches fold rest component p ≡ false

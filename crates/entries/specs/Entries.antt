@@ -14,15 +14,15 @@ pub record Entry : Type 0 where
   pub directory : Bool
 
 -- the first byte is b
-abbrev pub begins : ℕ → List ℕ → Bool
-begins b [] = false
-begins b (x ∷ s) = eqb x b
+abbrev pub firstIs : ℕ → List ℕ → Bool
+firstIs b [] = false
+firstIs b (x ∷ s) = eqb x b
 
 -- the last byte is b
-abbrev pub ends : ℕ → List ℕ → Bool
-ends b [] = false
-ends b (x ∷ []) = eqb x b
-ends b (x ∷ y ∷ s) = ends b (y ∷ s)
+abbrev pub lastIs : ℕ → List ℕ → Bool
+lastIs b [] = false
+lastIs b (x ∷ []) = eqb x b
+lastIs b (x ∷ y ∷ s) = lastIs b (y ∷ s)
 
 -- b is among the bytes
 abbrev pub has : ℕ → List ℕ → Bool
@@ -46,16 +46,16 @@ lastComponent [] = []
 lastComponent (x ∷ s) = cond (has 47 (x ∷ s)) (lastComponent s) (x ∷ s)
 
 -- where the last component starts
-unfoldable pub nameStart : List ℕ → ℕ
-nameStart s = length s - length (lastComponent s)
+unfoldable pub componentStart : List ℕ → ℕ
+componentStart s = length s - length (lastComponent s)
 
 -- "One last `/` goes and means "directories only"."
 abbrev pub withoutSlash : List ℕ → List ℕ
-withoutSlash p = cond (ends 47 p) (front p) p
+withoutSlash p = cond (lastIs 47 p) (front p) p
 
 -- "one first `/` goes"
 abbrev pub withoutFirst : List ℕ → List ℕ
-withoutFirst p = cond (begins 47 p) (drop 1 p) p
+withoutFirst p = cond (firstIs 47 p) (drop 1 p) p
 
 -- "A file applies to a path or directory of n bytes only if its base is less than n."
 unfoldable pub applies : ℕ → Entry → Bool
@@ -63,19 +63,19 @@ applies base e = ltb base (length (e .bytes))
 
 -- A pattern without its last `/`. "If a `/` is left anywhere, the pattern is anchored: one first `/` goes, and it is matched in path mode
 -- against" the rest, which is "the path with the rule file's directory cut off its front. Otherwise it is matched without path mode against
--- the last component", the name. "An empty pattern matches nothing."
+-- the last component". "An empty pattern matches nothing."
 unfoldable pub bareMatches : Bool → List ℕ → List ℕ → List ℕ → Bool
-bareMatches fold rest name p =
-    not (isEmpty (withoutFirst p)) && matchesTest (record { path = has 47 p; fold = fold }) (withoutFirst p) (cond (has 47 p) rest name)
+bareMatches fold rest component p =
+    not (isEmpty (withoutFirst p)) && matchesTest (record { path = has 47 p; fold = fold }) (withoutFirst p) (cond (has 47 p) rest component)
 
 -- a line's pattern, its `!` gone. "One last `/` goes and means "directories only"."
-unfoldable pub textsMatch : Bool → Bool → List ℕ → List ℕ → List ℕ → Bool
-textsMatch fold directory rest name p = (not (ends 47 p) || directory) && bareMatches fold rest name (withoutSlash p)
+unfoldable pub patternMatches : Bool → Bool → List ℕ → List ℕ → List ℕ → Bool
+patternMatches fold directory rest component p = (not (lastIs 47 p) || directory) && bareMatches fold rest component (withoutSlash p)
 
 -- "the path with the rule file's directory cut off its front": the rest of an entry, by the file's base
 unfoldable pub restOf : ℕ → Entry → List ℕ
 restOf base e = drop base (e .bytes)
 
--- the name of an entry, its last component
-unfoldable pub nameOf : Entry → List ℕ
-nameOf e = lastComponent (e .bytes)
+-- "the last component" of an entry
+unfoldable pub componentOf : Entry → List ℕ
+componentOf e = lastComponent (e .bytes)

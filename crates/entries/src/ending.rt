@@ -21,8 +21,8 @@ fn ends_in(c: u8, text: &[u8], fold: bool) -> bool
 
 // Whether the pattern matches neither text, since it ends in a literal that accepts the last byte of neither. No `*`, `?` or `]` at its
 // end is one, nor is a byte after `\`; and a `/` may take nothing.
-pub fn cannot_match(pattern: &[u8], rest: &[u8], name: &[u8], fold: bool) -> bool
-    ensures { λ r. ⌜ Excludes fold (now (rest .entry)) (now (name .entry)) (now (pattern .entry)) r ⌝ }
+pub fn cannot_match(pattern: &[u8], rest: &[u8], component: &[u8], fold: bool) -> bool
+    ensures { λ r. ⌜ Excludes fold (now (rest .entry)) (now (component .entry)) (now (pattern .entry)) r ⌝ }
 {
     let n = pattern.len();
     if n == 0 {
@@ -32,7 +32,7 @@ pub fn cannot_match(pattern: &[u8], rest: &[u8], name: &[u8], fold: bool) -> boo
     if ends_in(c, rest, fold) {
         return false;
     }
-    if ends_in(c, name, fold) {
+    if ends_in(c, component, fold) {
         return false;
     }
     if c == 42 {

@@ -1,6 +1,6 @@
 // How the pattern of a line is matched against an entry.
 ghost use mathlib.Core.Path.{_≡_};
-ghost use Rattle.entries.specs.Entries.{has, bareMatches, textsMatch, nameStart};
+ghost use Rattle.entries.specs.Entries.{has, bareMatches, patternMatches, componentStart};
 
 mod ending;
 
@@ -23,13 +23,13 @@ fn has_slash(pattern: &[u8]) -> bool
 }
 
 // A pattern whose last `/` has gone.
-fn bare_matches(pattern: &[u8], rest: &[u8], name: &[u8], fold: bool) -> bool
-    ensures { λ r. ⌜ r ≡ bareMatches fold (now (rest .entry)) (now (name .entry)) (now (pattern .entry)) ⌝ }
+fn bare_matches(pattern: &[u8], rest: &[u8], component: &[u8], fold: bool) -> bool
+    ensures { λ r. ⌜ r ≡ bareMatches fold (now (rest .entry)) (now (component .entry)) (now (pattern .entry)) ⌝ }
 {
     if pattern.len() == 0 {
         return false;
     }
-    if cannot_match(pattern, rest, name, fold) {
+    if cannot_match(pattern, rest, component, fold) {
         return false;
     }
     if has_slash(pattern) {
@@ -49,35 +49,35 @@ fn bare_matches(pattern: &[u8], rest: &[u8], name: &[u8], fold: bool) -> bool
         path: false,
         fold: fold,
     };
-    matches(pattern, name, plain)
+    matches(pattern, component, plain)
 }
 
-// Whether the pattern of a line matches an entry: the rest is the entry from the base on, the name its last component.
+// Whether the pattern of a line matches an entry: the rest is the entry from the base on, the component its last one.
 pub fn pattern_matches(
     pattern: &[u8],
     rest: &[u8],
-    name: &[u8],
+    component: &[u8],
     directory: bool,
     fold: bool,
 ) -> bool
-    ensures { λ r. ⌜ r ≡ textsMatch fold directory (now (rest .entry)) (now (name .entry)) (now (pattern .entry)) ⌝ }
+    ensures { λ r. ⌜ r ≡ patternMatches fold directory (now (rest .entry)) (now (component .entry)) (now (pattern .entry)) ⌝ }
 {
     let n = pattern.len();
     if n == 0 {
         return false;
     }
     if pattern[n - 1] != 47 {
-        return bare_matches(pattern, rest, name, fold);
+        return bare_matches(pattern, rest, component, fold);
     }
     if directory {
-        return bare_matches(&pattern[..n - 1], rest, name, fold);
+        return bare_matches(&pattern[..n - 1], rest, component, fold);
     }
     false
 }
 
 // Where the last component of an entry starts.
-pub fn name_start(entry: &[u8]) -> usize
-    ensures { λ r. ⌜ r ≡ nameStart (now (entry .entry)) ⌝ }
+pub fn component_start(entry: &[u8]) -> usize
+    ensures { λ r. ⌜ r ≡ componentStart (now (entry .entry)) ⌝ }
 {
     let mut i = entry.len();
     while 0 < i {

@@ -11,7 +11,7 @@ use lib.ListN.{length, take, drop, getD, drop-of-length-le}
 use lib.Seq.{drop-cons}
 use borrow.Author.Tests.{eq-eqb, ne-eqb, eqb-true}
 use Rattle.wildmatch.proofs.Parts.{from, from-drop}
-use Rattle.entries.specs.Entries.{ends, textsMatch}
+use Rattle.entries.specs.Entries.{lastIs, patternMatches}
 use Rattle.entries.proofs.ByteLaws.{ends-last, front-last}
 use Rattle.entries.proofs.PatternLaws.{texts-empty}
 use Rattle.ignorelines.specs.IgnoreLines.{ignored, re-included, withoutCr, skipped, spaceBefore, kept, stripped, negated, withoutNot, ruleWord, bytesWord, verdictOf}
@@ -135,28 +135,28 @@ rule-start (x ∷ l) start b n e h = (sym e, from-drop start (x ∷ l) ∙ rw (h
     go false = refl
 
 -- what a stripped line says, by its first byte
-module _ (fold directory : Bool) (rest name : List ℕ) where
-  pub rule-empty : (l : List ℕ) → length l ≡ 0 → none ≡ ruleWord fold directory rest name l
+module _ (fold directory : Bool) (rest component : List ℕ) where
+  pub rule-empty : (l : List ℕ) → length l ≡ 0 → none ≡ ruleWord fold directory rest component l
   unfolding ruleWord withoutNot
-  rule-empty [] h = rw (texts-empty fold rest name directory [] refl)
+  rule-empty [] h = rw (texts-empty fold rest component directory [] refl)
   rule-empty (x ∷ l) h = absurd (omega arith)
 
-  pub rule-said : (l : List ℕ) (start : ℕ) (b r : Bool) (w : Word) → (negated l ≡ b) × (from start l ≡ withoutNot l) → r ≡ textsMatch fold directory rest name (from start l) → verdictOf w ≡ cond r (some (cond b re-included ignored)) none → verdictOf w ≡ ruleWord fold directory rest name l
+  pub rule-said : (l : List ℕ) (start : ℕ) (b r : Bool) (w : Word) → (negated l ≡ b) × (from start l ≡ withoutNot l) → r ≡ patternMatches fold directory rest component (from start l) → verdictOf w ≡ cond r (some (cond b re-included ignored)) none → verdictOf w ≡ ruleWord fold directory rest component l
   unfolding ruleWord
-  rule-said l start b r w p e h = h ∙ rw (e ∙ ap (textsMatch fold directory rest name) (p .1), p .0)
+  rule-said l start b r w p e h = h ∙ rw (e ∙ ap (patternMatches fold directory rest component) (p .1), p .0)
 
   -- a line that is skipped, or goes on to its rule
-  pub bytes-empty : (l c : List ℕ) → c ≡ withoutCr l → length c ≡ 0 → none ≡ bytesWord fold directory rest name l
+  pub bytes-empty : (l c : List ℕ) → c ≡ withoutCr l → length c ≡ 0 → none ≡ bytesWord fold directory rest component l
   unfolding bytesWord skipped
   bytes-empty l [] e h = rw (sym e)
   bytes-empty l (x ∷ c) e h = absurd (omega arith)
 
-  pub bytes-comment : (l c : List ℕ) → c ≡ withoutCr l → (length c ≡ 0 → ⊥) → getD c 0 0 ≡ 35 → none ≡ bytesWord fold directory rest name l
+  pub bytes-comment : (l c : List ℕ) → c ≡ withoutCr l → (length c ≡ 0 → ⊥) → getD c 0 0 ≡ 35 → none ≡ bytesWord fold directory rest component l
   unfolding bytesWord skipped
   bytes-comment l [] e n h = absurd (n refl)
   bytes-comment l (x ∷ c) e n h = rw (sym e, eq-eqb x 35 h)
 
-  pub bytes-rule : (l c : List ℕ) (n : ℕ) (w : Word) → c ≡ withoutCr l → (length c ≡ 0 → ⊥) → (getD c 0 0 ≡ 35 → ⊥) → n ≡ kept false c → verdictOf w ≡ ruleWord fold directory rest name (take n c) → verdictOf w ≡ bytesWord fold directory rest name l
+  pub bytes-rule : (l c : List ℕ) (n : ℕ) (w : Word) → c ≡ withoutCr l → (length c ≡ 0 → ⊥) → (getD c 0 0 ≡ 35 → ⊥) → n ≡ kept false c → verdictOf w ≡ ruleWord fold directory rest component (take n c) → verdictOf w ≡ bytesWord fold directory rest component l
   unfolding bytesWord skipped stripped
   bytes-rule l [] n w e p h k v = absurd (p refl)
   bytes-rule l (x ∷ c) n w e p h k v = rw (sym e, ne-eqb x 35 h, sym k) v

@@ -6,7 +6,7 @@ use mathlib.Core.Option.{Option, none, some}
 use lib.Dec.{eqb}
 use lib.ListN.{take, drop}
 use Rattle.rulefiles.specs.RuleFiles.{Line}
-use Rattle.entries.specs.Entries.{Entry, begins, ends, front, isEmpty, applies, textsMatch, restOf, nameOf}
+use Rattle.entries.specs.Entries.{Entry, firstIs, lastIs, front, isEmpty, applies, patternMatches, restOf, componentOf}
 use Rattle.ignorelines.specs.declared.Word.{Word}
 use Rattle.ignorelines.specs.declared.Word.the-variants.{Silent, Ignores, Reincludes}
 
@@ -17,11 +17,11 @@ pub data Verdict : Type 0 where
 
 -- "drop one CR at a line's end, the last line's too"
 unfoldable pub withoutCr : List ℕ → List ℕ
-withoutCr l = cond (ends 13 l) (front l) l
+withoutCr l = cond (lastIs 13 l) (front l) l
 
 -- "Skip a line that is empty or begins with `#`."
 unfoldable pub skipped : List ℕ → Bool
-skipped l = isEmpty l || begins 35 l
+skipped l = isEmpty l || firstIs 35 l
 
 -- a space stays if anything after it stays
 abbrev pub spaceBefore : ℕ → ℕ
@@ -40,23 +40,23 @@ stripped l = take (kept false l) l
 
 -- "A first `!` negates and goes."
 unfoldable pub negated : List ℕ → Bool
-negated l = begins 33 l
+negated l = firstIs 33 l
 
 -- "and goes"
 unfoldable pub withoutNot : List ℕ → List ℕ
-withoutNot l = cond (begins 33 l) (drop 1 l) l
+withoutNot l = cond (firstIs 33 l) (drop 1 l) l
 
--- what a line says that is not skipped and has been stripped, of an entry with this rest and name
+-- what a line says that is not skipped and has been stripped, of an entry with this rest and component
 unfoldable pub ruleWord : Bool → Bool → List ℕ → List ℕ → List ℕ → Option Verdict
-ruleWord fold directory rest name l = cond (textsMatch fold directory rest name (withoutNot l)) (some (cond (negated l) re-included ignored)) none
+ruleWord fold directory rest component l = cond (patternMatches fold directory rest component (withoutNot l)) (some (cond (negated l) re-included ignored)) none
 
 -- what the bytes of a line say
 unfoldable pub bytesWord : Bool → Bool → List ℕ → List ℕ → List ℕ → Option Verdict
-bytesWord fold directory rest name bytes = cond (skipped (withoutCr bytes)) none (ruleWord fold directory rest name (stripped (withoutCr bytes)))
+bytesWord fold directory rest component bytes = cond (skipped (withoutCr bytes)) none (ruleWord fold directory rest component (stripped (withoutCr bytes)))
 
 -- what a line says of an entry, if its file applies
 unfoldable pub ignoreWord : Bool → Entry → Line → Option Verdict
-ignoreWord fold e l = cond (applies (l .base) e) (bytesWord fold (e .directory) (restOf (l .base) e) (nameOf e) (l .bytes)) none
+ignoreWord fold e l = cond (applies (l .base) e) (bytesWord fold (e .directory) (restOf (l .base) e) (componentOf e) (l .bytes)) none
 
 -- what the code's word stands for
 abbrev pub verdictOf : Word → Option Verdict

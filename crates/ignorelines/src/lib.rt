@@ -80,15 +80,15 @@ fn kept_length(line: &[u8]) -> usize
 }
 
 // What a stripped line says.
-fn rule_word(line: &[u8], rest: &[u8], name: &[u8], directory: bool, fold: bool) -> Word
-    ensures { λ r. ⌜ verdictOf r ≡ ruleWord fold directory (now (rest .entry)) (now (name .entry)) (now (line .entry)) ⌝ }
+fn rule_word(line: &[u8], rest: &[u8], component: &[u8], directory: bool, fold: bool) -> Word
+    ensures { λ r. ⌜ verdictOf r ≡ ruleWord fold directory (now (rest .entry)) (now (component .entry)) (now (line .entry)) ⌝ }
 {
     if line.len() == 0 {
         return Word::Silent;
     }
     let not = line[0] == 33;
     let start: usize = if not { 1 } else { 0 };
-    if pattern_matches(&line[start..], rest, name, directory, fold) {
+    if pattern_matches(&line[start..], rest, component, directory, fold) {
         if not {
             return Word::Reincludes;
         }
@@ -97,9 +97,9 @@ fn rule_word(line: &[u8], rest: &[u8], name: &[u8], directory: bool, fold: bool)
     Word::Silent
 }
 
-// What a line says of an entry: the rest is the entry from the base on, the name its last component.
-pub fn line_word(line: &[u8], rest: &[u8], name: &[u8], directory: bool, fold: bool) -> Word
-    ensures { λ r. ⌜ verdictOf r ≡ bytesWord fold directory (now (rest .entry)) (now (name .entry)) (now (line .entry)) ⌝ }
+// What a line says of an entry: the rest is the entry from the base on, the component its last one.
+pub fn line_word(line: &[u8], rest: &[u8], component: &[u8], directory: bool, fold: bool) -> Word
+    ensures { λ r. ⌜ verdictOf r ≡ bytesWord fold directory (now (rest .entry)) (now (component .entry)) (now (line .entry)) ⌝ }
 {
     let content = without_cr(line);
     if content.len() == 0 {
@@ -109,5 +109,5 @@ pub fn line_word(line: &[u8], rest: &[u8], name: &[u8], directory: bool, fold: b
         return Word::Silent;
     }
     let n = kept_length(content);
-    rule_word(&content[..n], rest, name, directory, fold)
+    rule_word(&content[..n], rest, component, directory, fold)
 }

@@ -6,7 +6,7 @@ use mathlib.Core.List.{List, [], _∷_}
 use mathlib.Core.Option.{Option, none}
 use lib.ListN.{length}
 use Rattle.rulefiles.specs.RuleFiles.{Line}
-use Rattle.entries.specs.Entries.{Entry, ends, applies, bareMatches, textsMatch, restOf, nameOf}
+use Rattle.entries.specs.Entries.{Entry, lastIs, applies, bareMatches, patternMatches, restOf, componentOf}
 use Rattle.ignorelines.specs.IgnoreLines.{withoutCr, skipped, spaceBefore, kept, stripped, withoutNot, ruleWord, bytesWord, ignoreWord}
 use Rattle.attributelines.specs.AttributeLines.{blank, pieces, bytesState, attributeWord}
 
@@ -27,7 +27,7 @@ none-cond : {A : Type 0} (b : Bool) (o : Option A) → o ≡ none → cond b non
 none-cond true o e = refl
 none-cond false o e = e
 
-ends-space : (s : List ℕ) → ends 13 (spaces s) ≡ false
+ends-space : (s : List ℕ) → lastIs 13 (spaces s) ≡ false
 ends-space [] = refl
 ends-space (b ∷ []) = refl
 ends-space (b ∷ c ∷ s) = ends-space (c ∷ s)
@@ -43,7 +43,7 @@ strip-space s = rw (ends-space s, kept-space s)
 
 -- nothing is left of it, and "An empty pattern matches nothing."
 rule-empty : (fold directory : Bool) (rest name : List ℕ) → ruleWord fold directory rest name [] ≡ none
-unfolding ruleWord withoutNot textsMatch bareMatches
+unfolding ruleWord withoutNot patternMatches bareMatches
 rule-empty fold true rest name = refl
 rule-empty fold false rest name = refl
 
@@ -55,7 +55,7 @@ bytes-space fold directory rest name s =
 
 pub ignore-space : (fold : Bool) (e : Entry) (l : Line) (s : List ℕ) → l .bytes ≡ spaces s → ignoreWord fold e l ≡ none
 unfolding ignoreWord
-ignore-space fold e l s h = rw h (cond-none (applies (l .base) e) _ (bytes-space fold (e .directory) (restOf (l .base) e) (nameOf e) s))
+ignore-space fold e l s h = rw h (cond-none (applies (l .base) e) _ (bytes-space fold (e .directory) (restOf (l .base) e) (componentOf e) s))
 
 -- it has no words
 pieces-space : (at : ℕ) (s : List ℕ) → pieces at (spaces s) ≡ []

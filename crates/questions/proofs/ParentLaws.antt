@@ -11,7 +11,7 @@ use lib.Seq.{append-snoc, length-take-le}
 use borrow.Author.Tests.{eq-eqb}
 use Rattle.rulefiles.specs.Last.{Decision, joined}
 use Rattle.rulefiles.proofs.LastLaws.{joined-assoc}
-use Rattle.entries.specs.Entries.{Entry, has, nameStart}
+use Rattle.entries.specs.Entries.{Entry, has, componentStart}
 use Rattle.entries.proofs.ByteLaws.{After, start-place}
 use Rattle.ignorelines.specs.IgnoreLines.{Verdict, ignored, re-included}
 use Rattle.questions.specs.Verdicts.{parentsFrom, parents, ignores, answerAt, judged, topDown}
@@ -44,12 +44,12 @@ parents-last before (x ∷ s) (suc k) l e h = step before x s k (eqb x 47) (pare
     step before x s k false q = q
 
 -- an entry of one component has no parents
-pub parents-top : (s : List ℕ) (at : ℕ) → at ≡ nameStart s → at ≡ 0 → parents s ≡ []
+pub parents-top : (s : List ℕ) (at : ℕ) → at ≡ componentStart s → at ≡ 0 → parents s ≡ []
 unfolding parents
 parents-top s at e z = let p = start-place s .0 in parents-none [] s (subst (λ (n : ℕ). has 47 (drop n s) ≡ false) (sym e ∙ z) p)
 
 -- another has its parent, and that one's parents
-parents-step : (s : List ℕ) (at n : ℕ) → at ≡ nameStart s → at ≡ suc n → (n ≤ length s) × (parents s ≡ parents (take n s) ++ entryOf (take n s) true ∷ [])
+parents-step : (s : List ℕ) (at n : ℕ) → at ≡ componentStart s → at ≡ suc n → (n ≤ length s) × (parents s ≡ parents (take n s) ++ entryOf (take n s) true ∷ [])
 unfolding parents
 parents-step s at n e z =
     let p = subst (λ (k : ℕ). (has 47 (drop k s) ≡ false) × After s k) (sym e ∙ z) (start-place s) in
@@ -67,11 +67,11 @@ module _ (v : Entry → Option (Decision Verdict)) where
       ap (λ (o : Option Decided). joined o (ignoredAt (length (q .bytes)) (v q))) (first-last ps p)
       ∙ joined-assoc (ignoredAt (length (p .bytes)) (v p)) (firstIgnored v ps) (ignoredAt (length (q .bytes)) (v q))
 
-  pub above-top : (s : List ℕ) (at : ℕ) → at ≡ nameStart s → at ≡ 0 → none ≡ firstIgnored v (parents s)
+  pub above-top : (s : List ℕ) (at : ℕ) → at ≡ componentStart s → at ≡ 0 → none ≡ firstIgnored v (parents s)
   above-top s at e z = rw (parents-top s at e z)
 
   -- the parent's parents first, then the parent
-  pub above-step : (s : List ℕ) (at n : ℕ) (a : Option Decided) → at ≡ nameStart s → at ≡ suc n → a ≡ firstIgnored v (parents (take n s))
+  pub above-step : (s : List ℕ) (at n : ℕ) (a : Option Decided) → at ≡ componentStart s → at ≡ suc n → a ≡ firstIgnored v (parents (take n s))
       → joined (ignoredAt n (v (entryOf (take n s) true))) a ≡ firstIgnored v (parents s)
   above-step s at n a e z q =
       let p = parents-step s at n e z in

@@ -41,11 +41,11 @@ lastIn word file line at (l ∷ ls) = joined (saidAt file line (word at l)) (las
 
 -- what an ignore line at a place says, whatever the place
 unfoldable pub ignoreAt : Bool → Bool → List ℕ → List ℕ → ℕ → List ℕ → Option Verdict
-ignoreAt fold directory rest name at bytes = bytesWord fold directory rest name bytes
+ignoreAt fold directory rest component at bytes = bytesWord fold directory rest component bytes
 
 -- what an attribute line at a place says
 unfoldable pub attributeAt : Bool → Bool → List ℕ → List ℕ → List ℕ → ℕ → List ℕ → Option State
-attributeAt fold directory attribute rest name at bytes = bytesState fold directory rest name attribute at bytes
+attributeAt fold directory attribute rest component at bytes = bytesState fold directory rest component attribute at bytes
 
 -- where a file's lines start, after its BOM: the file starts at `start` of the rules up to its end
 unfoldable pub contentStart : List ℕ → ℕ → ℕ

@@ -9,7 +9,7 @@ use crate::Decided;
 use crate::IgnoreAnswer;
 use crate::verdict::Said;
 use crate::verdict::entry_said;
-use entries::name_start;
+use entries::component_start;
 use refusals::lowest::ignore_refusal;
 use wildmatch::answer::has_flag;
 
@@ -37,7 +37,7 @@ fn ignored_at(said: Said, length: usize) -> Above
 fn ignored_above(rules: &[u8], ends: &[usize], bases: &[usize], entry: &[u8], fold: bool) -> Above
     ensures { λ r. ⌜ aboveOf r ≡ firstIgnored (verdict fold (orderedLines (now (rules .entry)) (now (ends .entry)) (now (bases .entry)))) (parents (now (entry .entry))) ⌝ }
 {
-    let at = name_start(entry);
+    let at = component_start(entry);
     if at == 0 {
         return Above::Clear;
     }

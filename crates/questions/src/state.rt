@@ -10,7 +10,7 @@ use crate::lines::content_start;
 use crate::lines::rules_upto;
 use attributelines::Word;
 use attributelines::line_word;
-use entries::name_start;
+use entries::component_start;
 use rulefiles::Place;
 use rulefiles::line_end;
 
@@ -43,19 +43,19 @@ fn after_file(
     file: usize,
     attribute: &[u8],
     rest: &[u8],
-    name: &[u8],
+    component: &[u8],
     directory: bool,
     fold: bool,
     before: Heard,
 ) -> Heard
-    ensures { λ r. ⌜ heardOf r ≡ joined (heardOf before) (lastInFile (attributeAt fold directory (now (attribute .entry)) (now (rest .entry)) (now (name .entry))) file (now (upto .entry)) start) ⌝ }
+    ensures { λ r. ⌜ heardOf r ≡ joined (heardOf before) (lastInFile (attributeAt fold directory (now (attribute .entry)) (now (rest .entry)) (now (component .entry))) file (now (upto .entry)) start) ⌝ }
 {
     let mut heard = before;
     let mut i = content_start(upto, start);
     let mut line = 1;
     while i < upto.len() {
         let end = line_end(upto, i);
-        let word = line_word(&upto[..end], i, attribute, rest, name, directory, fold);
+        let word = line_word(&upto[..end], i, attribute, rest, component, directory, fold);
         heard = after_line(heard, word, file, line);
         i = end + 1;
         line += 1;
@@ -75,7 +75,7 @@ pub fn path_heard(
 ) -> Heard
     ensures { λ r. ⌜ heardOf r ≡ attributeState fold (now (attribute .entry)) (orderedLines (now (rules .entry)) (now (ends .entry)) (now (bases .entry))) (record { bytes = now (path .entry); directory = directory }) ⌝ }
 {
-    let at = name_start(path);
+    let at = component_start(path);
     let mut heard = Heard::Nothing;
     let mut start = 0;
     let mut file = 0;

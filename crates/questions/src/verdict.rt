@@ -9,7 +9,7 @@ ghost use Rattle.questions.specs.Verdicts.{verdict};
 ghost use Rattle.questions.specs.Scan.{decisionOf, saidAt, ignoreAt, lastInFile};
 use crate::lines::content_start;
 use crate::lines::rules_upto;
-use entries::name_start;
+use entries::component_start;
 use ignorelines::Word;
 use ignorelines::line_word;
 use rulefiles::Place;
@@ -43,19 +43,19 @@ fn after_file(
     start: usize,
     file: usize,
     rest: &[u8],
-    name: &[u8],
+    component: &[u8],
     directory: bool,
     fold: bool,
     before: Said,
 ) -> Said
-    ensures { λ r. ⌜ decisionOf r ≡ joined (decisionOf before) (lastInFile (ignoreAt fold directory (now (rest .entry)) (now (name .entry))) file (now (upto .entry)) start) ⌝ }
+    ensures { λ r. ⌜ decisionOf r ≡ joined (decisionOf before) (lastInFile (ignoreAt fold directory (now (rest .entry)) (now (component .entry))) file (now (upto .entry)) start) ⌝ }
 {
     let mut said = before;
     let mut i = content_start(upto, start);
     let mut line = 1;
     while i < upto.len() {
         let end = line_end(upto, i);
-        let word = line_word(&upto[i..end], rest, name, directory, fold);
+        let word = line_word(&upto[i..end], rest, component, directory, fold);
         said = after_line(said, word, file, line);
         i = end + 1;
         line += 1;
@@ -74,7 +74,7 @@ pub fn entry_said(
 ) -> Said
     ensures { λ r. ⌜ decisionOf r ≡ verdict fold (orderedLines (now (rules .entry)) (now (ends .entry)) (now (bases .entry))) (record { bytes = now (entry .entry); directory = directory }) ⌝ }
 {
-    let at = name_start(entry);
+    let at = component_start(entry);
     let mut said = Said::Nothing;
     let mut start = 0;
     let mut file = 0;

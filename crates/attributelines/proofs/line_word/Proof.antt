@@ -16,7 +16,7 @@ blanks-end-requires : tie.Need-blanks-end-requires
 blanks-end-requires c κs = search needs
 
 returns : tie.Need-returns
-returns c = let b = c .before in let a = b .before .before .before .before .before .args in let s = now (a .text) in line-empty (a .fold) (a .directory) (now (a .rest)) (now (a .name)) (now (a .attribute)) (a .at) (drop (a .at) s) (pieces-end s (a .at) (b .blanks-end .result) (b .blanks-end .ensures) (c .if1 .taken))
+returns c = let b = c .before in let a = b .before .before .before .before .before .args in let s = now (a .text) in line-empty (a .fold) (a .directory) (now (a .rest)) (now (a .component)) (now (a .attribute)) (a .at) (drop (a .at) s) (pieces-end s (a .at) (b .blanks-end .result) (b .blanks-end .ensures) (c .if1 .taken))
 
 word-end-requires : tie.Need-word-end-requires
 word-end-requires c κs = search needs
@@ -34,7 +34,7 @@ pattern-dropped-requires : tie.Need-pattern-dropped-requires
 pattern-dropped-requires c κs = search needs
 
 returns-2 : tie.Need-returns-2
-returns-2 c = let b = c .before .before .before .before .before in let a = b .before .before .before .before .before .args in let s = now (a .text) in line-dropped (a .fold) (a .directory) (now (a .rest)) (now (a .name)) (now (a .attribute)) (a .at) (drop (a .at) s) (record { start = b .blanks-end .result; bytes = take (c .before .before .before .word-end .result - b .blanks-end .result) (drop (b .blanks-end .result) s) }) (pieces (c .before .before .before .word-end .result) (drop (c .before .before .before .word-end .result) s)) (pieces-next s (a .at) (b .blanks-end .result) (c .before .before .before .word-end .result) (b .blanks-end .ensures) (c .before .before .before .before .if1 .left) (c .before .before .before .word-end .ensures)) (sym (c .before .pattern-dropped .ensures) ∙ c .if2 .taken)
+returns-2 c = let b = c .before .before .before .before .before in let a = b .before .before .before .before .before .args in let s = now (a .text) in line-dropped (a .fold) (a .directory) (now (a .rest)) (now (a .component)) (now (a .attribute)) (a .at) (drop (a .at) s) (record { start = b .blanks-end .result; bytes = take (c .before .before .before .word-end .result - b .blanks-end .result) (drop (b .blanks-end .result) s) }) (pieces (c .before .before .before .word-end .result) (drop (c .before .before .before .word-end .result) s)) (pieces-next s (a .at) (b .blanks-end .result) (c .before .before .before .word-end .result) (b .blanks-end .ensures) (c .before .before .before .before .if1 .left) (c .before .before .before .word-end .ensures)) (sym (c .before .pattern-dropped .ensures) ∙ c .if2 .taken)
 
 sub-pattern-matches : tie.Need-sub-pattern-matches
 sub-pattern-matches c = search needs
@@ -52,10 +52,10 @@ mentions-word-requires : tie.Need-mentions-word-requires
 mentions-word-requires c κs = search needs
 
 returns-3 : tie.Need-returns-3
-returns-3 c = let b = c .before .before .before .before .before .before .before .before .before in let a = b .before .before .before .before .before .args in let s = now (a .text) in line-matched (a .fold) (a .directory) (now (a .rest)) (now (a .name)) (now (a .attribute)) (a .at) (drop (a .at) s) (record { start = b .blanks-end .result; bytes = take (c .before .before .before .before .before .before .before .word-end .result - b .blanks-end .result) (drop (b .blanks-end .result) s) }) (pieces (c .before .before .before .before .before .before .before .word-end .result) (drop (c .before .before .before .before .before .before .before .word-end .result) s)) (stateOf (c .mentions-word .result)) (pieces-next s (a .at) (b .blanks-end .result) (c .before .before .before .before .before .before .before .word-end .result) (b .blanks-end .ensures) (c .before .before .before .before .before .before .before .before .if1 .left) (c .before .before .before .before .before .before .before .word-end .ensures)) (sym (c .before .before .before .before .before .pattern-dropped .ensures) ∙ c .before .before .before .before .if2 .left) (sym (c .before .before .pattern-matches .ensures) ∙ c .before .if3 .taken) (c .mentions-word .ensures)
+returns-3 c = let b = c .before .before .before .before .before .before .before .before .before in let a = b .before .before .before .before .before .args in let s = now (a .text) in line-matched (a .fold) (a .directory) (now (a .rest)) (now (a .component)) (now (a .attribute)) (a .at) (drop (a .at) s) (record { start = b .blanks-end .result; bytes = take (c .before .before .before .before .before .before .before .word-end .result - b .blanks-end .result) (drop (b .blanks-end .result) s) }) (pieces (c .before .before .before .before .before .before .before .word-end .result) (drop (c .before .before .before .before .before .before .before .word-end .result) s)) (stateOf (c .mentions-word .result)) (pieces-next s (a .at) (b .blanks-end .result) (c .before .before .before .before .before .before .before .word-end .result) (b .blanks-end .ensures) (c .before .before .before .before .before .before .before .before .if1 .left) (c .before .before .before .before .before .before .before .word-end .ensures)) (sym (c .before .before .before .before .before .pattern-dropped .ensures) ∙ c .before .before .before .before .if2 .left) (sym (c .before .before .pattern-matches .ensures) ∙ c .before .if3 .taken) (c .mentions-word .ensures)
 
 returns-4 : tie.Need-returns-4
-returns-4 c = let b = c .before .before .before .before .before .before .before .before in let a = b .before .before .before .before .before .args in let s = now (a .text) in line-other (a .fold) (a .directory) (now (a .rest)) (now (a .name)) (now (a .attribute)) (a .at) (drop (a .at) s) (record { start = b .blanks-end .result; bytes = take (c .before .before .before .before .before .before .word-end .result - b .blanks-end .result) (drop (b .blanks-end .result) s) }) (pieces (c .before .before .before .before .before .before .word-end .result) (drop (c .before .before .before .before .before .before .word-end .result) s)) (pieces-next s (a .at) (b .blanks-end .result) (c .before .before .before .before .before .before .word-end .result) (b .blanks-end .ensures) (c .before .before .before .before .before .before .before .if1 .left) (c .before .before .before .before .before .before .word-end .ensures)) (sym (c .before .before .before .before .pattern-dropped .ensures) ∙ c .before .before .before .if2 .left) (sym (c .before .pattern-matches .ensures) ∙ c .if3 .left)
+returns-4 c = let b = c .before .before .before .before .before .before .before .before in let a = b .before .before .before .before .before .args in let s = now (a .text) in line-other (a .fold) (a .directory) (now (a .rest)) (now (a .component)) (now (a .attribute)) (a .at) (drop (a .at) s) (record { start = b .blanks-end .result; bytes = take (c .before .before .before .before .before .before .word-end .result - b .blanks-end .result) (drop (b .blanks-end .result) s) }) (pieces (c .before .before .before .before .before .before .word-end .result) (drop (c .before .before .before .before .before .before .word-end .result) s)) (pieces-next s (a .at) (b .blanks-end .result) (c .before .before .before .before .before .before .word-end .result) (b .blanks-end .ensures) (c .before .before .before .before .before .before .before .if1 .left) (c .before .before .before .before .before .before .word-end .ensures)) (sym (c .before .before .before .before .pattern-dropped .ensures) ∙ c .before .before .before .if2 .left) (sym (c .before .pattern-matches .ensures) ∙ c .if3 .left)
 
 pub line-word-spec : {M : Type 1} → statement M
 line-word-spec =

@@ -1,6 +1,6 @@
 -- `entries::bare_matches` meets its contract: one law for each return.
 use mathlib.Core.Path.{sym, _∙_}
-use Rattle.entries.proofs.PatternLaws.{bare-empty, bare-name, bare-rest, bare-slash, bare-anchored}
+use Rattle.entries.proofs.PatternLaws.{bare-empty, bare-component, bare-rest, bare-slash, bare-anchored}
 use Rattle.entries.proofs.EndingLaws.{bare-excluded}
 use borrow.Author.Needs.{needs}
 use Rattle.entries.proofs.bare_matches.Statement.{statement}
@@ -49,7 +49,7 @@ matches-requires-3 : tie.Need-matches-requires-3
 matches-requires-3 c κs = search needs
 
 returns-6 : tie.Need-returns-6
-returns-6 c = bare-name _ _ _ _ _ (c .before .before .before .before .before .if1 .left) (sym (c .before .before .has-slash .ensures) ∙ c .before .if3 .left) (c .matches3 .ensures .test)
+returns-6 c = bare-component _ _ _ _ _ (c .before .before .before .before .before .if1 .left) (sym (c .before .before .has-slash .ensures) ∙ c .before .if3 .left) (c .matches3 .ensures .test)
 
 pub bare-matches-spec : {M : Type 1} → statement M
 bare-matches-spec =

@@ -18,11 +18,11 @@ use Rattle.questions.proofs.state.after_file.Statement.{statement}
 use Rattle.questions.proofs.state.after_file.Tie as tie
 
 abbrev Inv-loop : tie.InvT-loop
-Inv-loop upto start file attribute rest name directory fold heard₀ i₀ line₀ heard i line =
-    (line ≤ i + 1) × (joined (heardOf heard₀) (lastInFile (attributeAt fold directory attribute rest name) file upto start) ≡ joined (heardOf heard) (lastIn (attributeAt fold directory attribute rest name) file line i (split (drop i upto))))
+Inv-loop upto start file attribute rest component directory fold heard₀ i₀ line₀ heard i line =
+    (line ≤ i + 1) × (joined (heardOf heard₀) (lastInFile (attributeAt fold directory attribute rest component) file upto start) ≡ joined (heardOf heard) (lastIn (attributeAt fold directory attribute rest component) file line i (split (drop i upto))))
 
 abbrev μ-loop : tie.MeasureT-loop
-μ-loop upto start file attribute rest name directory fold heard₀ i₀ line₀ heard i line = length upto - i
+μ-loop upto start file attribute rest component directory fold heard₀ i₀ line₀ heard i line = length upto - i
 
 -- the line ends within the rules
 within : (c : tie.After-line-end Inv-loop μ-loop) → c .line-end .result ≤ length (now (c .before .before .before .before .before .before .before .before .args .upto))
@@ -64,7 +64,7 @@ loop-again c =
     let l = c .before .before .before .before .before in
     let a = l .before .before .before .before .before .before .args in
     let e = c .before .before .before in
-    let w = attributeAt (a .fold) (a .directory) (now (a .attribute)) (now (a .rest)) (now (a .name)) in (
+    let w = attributeAt (a .fold) (a .directory) (now (a .attribute)) (now (a .rest)) (now (a .component)) in (
       omega (arith, l .loop .inv .0, e .line-end .ensures),
       l .loop .inv .1
           ∙ line-turn w (a .file) (now (a .upto)) (l .loop .line) (l .loop .i) (e .line-end .result) (heardOf (l .loop .heard)) (heardOf (c .after-line .result))
@@ -74,7 +74,7 @@ loop-again c =
     )
 
 returns : tie.Need-returns Inv-loop μ-loop
-returns c = let l = c .before in let a = l .before .before .before .before .before .before .args in sym (l .loop .inv .1 ∙ lines-end (attributeAt (a .fold) (a .directory) (now (a .attribute)) (now (a .rest)) (now (a .name))) (a .file) (now (a .upto)) (l .loop .line) (l .loop .i) (heardOf (l .loop .heard)) (c .loop-test .left))
+returns c = let l = c .before in let a = l .before .before .before .before .before .before .args in sym (l .loop .inv .1 ∙ lines-end (attributeAt (a .fold) (a .directory) (now (a .attribute)) (now (a .rest)) (now (a .component))) (a .file) (now (a .upto)) (l .loop .line) (l .loop .i) (heardOf (l .loop .heard)) (c .loop-test .left))
 
 pub after-file-spec : {M : Type 1} → statement M
 after-file-spec =

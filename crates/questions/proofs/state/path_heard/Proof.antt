@@ -41,16 +41,16 @@ chosen c =
     let base = getD (now (a .bases)) (l .loop .file) 0 in
     let entry = now (a .path) in
     ⊎-elim
-    (λ w. file-applies (attributeWord (a .fold) (entryOf entry (a .directory)) (now (a .attribute))) (attributeAt (a .fold) (a .directory) (now (a .attribute))) (a .directory) (now (a .rules)) (now (a .ends)) (now (a .bases)) entry (attribute-reads (a .fold) (a .directory) (now (a .attribute)) entry) (l .loop .file) (l .loop .start) (n .name-start .result)
-    (heardOf (l .loop .heard)) (heardOf (c .if2 .heard)) (w .0 .taken) (n .name-start .ensures)
+    (λ w. file-applies (attributeWord (a .fold) (entryOf entry (a .directory)) (now (a .attribute))) (attributeAt (a .fold) (a .directory) (now (a .attribute))) (a .directory) (now (a .rules)) (now (a .ends)) (now (a .bases)) entry (attribute-reads (a .fold) (a .directory) (now (a .attribute)) entry) (l .loop .file) (l .loop .start) (n .component-start .result)
+    (heardOf (l .loop .heard)) (heardOf (c .if2 .heard)) (w .0 .taken) (n .component-start .ensures)
     (ap heardOf (w .5) ∙ w .4 .ensures
-    ∙ ap (λ (u : List ℕ). joined (heardOf (l .loop .heard)) (lastInFile (attributeAt (a .fold) (a .directory) (now (a .attribute)) (from base entry) (from (n .name-start .result) entry)) (l .loop .file) u (l .loop .start))) (w .1 .ensures)))
+    ∙ ap (λ (u : List ℕ). joined (heardOf (l .loop .heard)) (lastInFile (attributeAt (a .fold) (a .directory) (now (a .attribute)) (from base entry) (from (n .component-start .result) entry)) (l .loop .file) u (l .loop .start))) (w .1 .ensures)))
     (λ w. file-passed (attributeWord (a .fold) (entryOf entry (a .directory)) (now (a .attribute))) (attributeAt (a .fold) (a .directory) (now (a .attribute))) (a .directory) (now (a .rules)) (now (a .ends)) (now (a .bases)) entry (attribute-reads (a .fold) (a .directory) (now (a .attribute)) entry) (l .loop .file) (l .loop .start)
     (heardOf (l .loop .heard)) (heardOf (c .if2 .heard)) (w .0 .left) (ap heardOf (w .1)))
     (c .if2 .came)
 
-name-start-requires : tie.Need-name-start-requires Inv-loop μ-loop
-name-start-requires c κs = search needs
+component-start-requires : tie.Need-component-start-requires Inv-loop μ-loop
+component-start-requires c κs = search needs
 
 loop-holds : tie.Need-loop-holds Inv-loop μ-loop
 unfolding attributeState
@@ -84,10 +84,10 @@ part-after-file-end : tie.Need-part-after-file-end Inv-loop μ-loop
 part-after-file-end c = omega arith
 
 sub-after-file-2 : tie.Need-sub-after-file-2 Inv-loop μ-loop
-sub-after-file-2 c = start-fits _ _ (c .before .before .before .before .before .before .before .before .name-start .ensures)
+sub-after-file-2 c = start-fits _ _ (c .before .before .before .before .before .before .before .before .component-start .ensures)
 
 part-after-file-start-2 : tie.Need-part-after-file-start-2 Inv-loop μ-loop
-part-after-file-start-2 c = start-fits _ _ (c .before .before .before .before .before .before .before .before .name-start .ensures)
+part-after-file-start-2 c = start-fits _ _ (c .before .before .before .before .before .before .before .before .component-start .ensures)
 
 part-after-file-end-2 : tie.Need-part-after-file-end-2 Inv-loop μ-loop
 part-after-file-end-2 c = omega arith
@@ -121,7 +121,7 @@ path-heard-spec =
     (tie.spec
     Inv-loop
     μ-loop
-    name-start-requires
+    component-start-requires
     loop-holds
     returns
     mul-end

@@ -16,11 +16,11 @@ use Rattle.questions.proofs.verdict.after_file.Statement.{statement}
 use Rattle.questions.proofs.verdict.after_file.Tie as tie
 
 abbrev Inv-loop : tie.InvT-loop
-Inv-loop upto start file rest name directory fold said₀ i₀ line₀ said i line =
-    (line ≤ i + 1) × (joined (decisionOf said₀) (lastInFile (ignoreAt fold directory rest name) file upto start) ≡ joined (decisionOf said) (lastIn (ignoreAt fold directory rest name) file line i (split (drop i upto))))
+Inv-loop upto start file rest component directory fold said₀ i₀ line₀ said i line =
+    (line ≤ i + 1) × (joined (decisionOf said₀) (lastInFile (ignoreAt fold directory rest component) file upto start) ≡ joined (decisionOf said) (lastIn (ignoreAt fold directory rest component) file line i (split (drop i upto))))
 
 abbrev μ-loop : tie.MeasureT-loop
-μ-loop upto start file rest name directory fold said₀ i₀ line₀ said i line = length upto - i
+μ-loop upto start file rest component directory fold said₀ i₀ line₀ said i line = length upto - i
 
 -- the line ends within the rules
 within : (c : tie.After-line-end Inv-loop μ-loop) → c .line-end .result ≤ length (now (c .before .before .before .before .before .before .before .args .upto))
@@ -68,7 +68,7 @@ loop-again c =
     let l = c .before .before .before .before .before in
     let a = l .before .before .before .before .before .args in
     let e = c .before .before .before in
-    let w = ignoreAt (a .fold) (a .directory) (now (a .rest)) (now (a .name)) in (
+    let w = ignoreAt (a .fold) (a .directory) (now (a .rest)) (now (a .component)) in (
       omega (arith, l .loop .inv .0, e .line-end .ensures),
       l .loop .inv .1
           ∙ line-turn w (a .file) (now (a .upto)) (l .loop .line) (l .loop .i) (e .line-end .result) (decisionOf (l .loop .said)) (decisionOf (c .after-line .result))
@@ -77,7 +77,7 @@ loop-again c =
     )
 
 returns : tie.Need-returns Inv-loop μ-loop
-returns c = let l = c .before in let a = l .before .before .before .before .before .args in sym (l .loop .inv .1 ∙ lines-end (ignoreAt (a .fold) (a .directory) (now (a .rest)) (now (a .name))) (a .file) (now (a .upto)) (l .loop .line) (l .loop .i) (decisionOf (l .loop .said)) (c .loop-test .left))
+returns c = let l = c .before in let a = l .before .before .before .before .before .args in sym (l .loop .inv .1 ∙ lines-end (ignoreAt (a .fold) (a .directory) (now (a .rest)) (now (a .component))) (a .file) (now (a .upto)) (l .loop .line) (l .loop .i) (decisionOf (l .loop .said)) (c .loop-test .left))
 
 pub after-file-spec : {M : Type 1} → statement M
 after-file-spec =

@@ -1,4 +1,4 @@
--- `entries::name_start` meets its contract: no `/` stands from the place that is looked at on.
+-- `entries::component_start` meets its contract: no `/` stands from the place that is looked at on.
 use Prim.Native.Nat.{_≤_, _-_}
 use native.Mathlib.Omega.{arith}
 use mathlib.Core.Path.{_≡_, sym}
@@ -8,8 +8,8 @@ use denote.Ref.{now}
 use lib.ListN.{length, drop}
 use Rattle.entries.specs.Entries.{has}
 use Rattle.entries.proofs.ByteLaws.{has-none, start-found, start-none, none-before}
-use Rattle.entries.proofs.name_start.Statement.{statement}
-use Rattle.entries.proofs.name_start.Tie as tie
+use Rattle.entries.proofs.component_start.Statement.{statement}
+use Rattle.entries.proofs.component_start.Tie as tie
 
 abbrev Inv-loop : tie.InvT-loop
 Inv-loop entry i₀ i = (i ≤ length entry) × (has 47 (drop i entry) ≡ false)
@@ -41,8 +41,8 @@ loop-again c = let l = c .before .before .before in (search needs, none-before 4
 returns-2 : tie.Need-returns-2 Inv-loop μ-loop
 returns-2 c = let l = c .before in sym (start-none (now (l .before .args .entry)) (l .loop .i) (c .loop-test .left) (l .loop .inv .1))
 
-pub name-start-spec : {M : Type 1} → statement M
-name-start-spec =
+pub component-start-spec : {M : Type 1} → statement M
+component-start-spec =
     tie.close
     (tie.spec
     Inv-loop
