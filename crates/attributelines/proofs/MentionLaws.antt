@@ -1,20 +1,16 @@
 -- A mention's name and state, and which patterns drop a line, by the tests of the code.
 use Prim.Native.Nat.{ℕ, suc, _+_, _-_, _<_, _≤_}
 use native.Mathlib.Omega.{arith}
-use native.Mathlib.Numerals.{add-one}
 use mathlib.Core.Path.{_≡_, refl, sym, ap, subst, _∙_}
 use mathlib.Core.Bool.{Bool, true, false, cond, _&&_, _||_, and-true, and-false}
 use mathlib.Core.List.{List, [], _∷_}
 use lib.Dec.{eqb}
 use lib.ListN.{length, take, drop, getD, length-drop, drop-of-length-le}
-use lib.Seq.{drop-cons}
+use Rattle.wildmatch.proofs.Parts.{next}
 use borrow.Author.Tests.{eq-eqb, ne-eqb, lt-ltb, le-ltb}
 use Rattle.entries.specs.Entries.{has}
 use Rattle.attributelines.specs.AttributeLines.{nameLength, nameIn, Mention, plainMention, mention, beginsWith, definition, patternDropped, same}
 use Rattle.attributelines.specs.declared.State.the-variants.{Set, Unset, Value, Unspecified}
-
-next : (s : List ℕ) (i : ℕ) → i < length s → drop i s ≡ getD s i 0 ∷ drop (i + 1) s
-next s i h = rw (add-one i) (drop-cons s i 0 h)
 
 -- two names
 pub same-length : (a b : List ℕ) → (length a ≡ length b → ⊥) → false ≡ same a b

@@ -1,18 +1,14 @@
 -- The bytes before the first that has a property, counted from a place on.
 use Prim.Native.Nat.{ℕ, suc, _+_, _<_, _≤_}
 use native.Mathlib.Omega.{arith}
-use native.Mathlib.Numerals.{add-one}
 use mathlib.Core.Path.{_≡_}
 use mathlib.Core.Bool.{Bool, true, false, cond}
 use mathlib.Core.List.{List, [], _∷_}
 use lib.ListN.{length, drop, getD, length-drop, drop-of-length-le}
-use lib.Seq.{drop-cons}
+use Rattle.wildmatch.proofs.Parts.{next}
 use Rattle.entries.specs.Entries.{before}
 
 module _ (p : ℕ → Bool) where
-  next : (s : List ℕ) (i : ℕ) → i < length s → drop i s ≡ getD s i 0 ∷ drop (i + 1) s
-  next s i h = rw (add-one i) (drop-cons s i 0 h)
-
   -- the byte at this place has it
   pub before-stop : (s : List ℕ) (i : ℕ) → i < length s → p (getD s i 0) ≡ true → i + before p (drop i s) ≡ i
   before-stop s i h e = rw (next s i h, e) (omega arith)

@@ -1,5 +1,5 @@
 -- A line's pattern, by the tests of its first and last byte.
-use Prim.Native.Nat.{ℕ, suc, _-_}
+use Prim.Native.Nat.{ℕ, _-_}
 use native.Mathlib.Omega.{arith}
 use mathlib.Core.Path.{_≡_, refl, ap, _∙_}
 use mathlib.Core.Bool.{Bool, true, false, not, _||_}
@@ -7,7 +7,7 @@ use mathlib.Core.List.{List, [], _∷_}
 use lib.Dec.{eqb}
 use lib.ListN.{length, take, getD}
 use borrow.Author.Tests.{eq-eqb, ne-eqb}
-use Rattle.wildmatch.proofs.Parts.{from, from-drop}
+use Rattle.wildmatch.proofs.Parts.{from, from-drop, one-after}
 use Rattle.wildmatch.specs.Test.{matchesTest}
 use Rattle.entries.specs.Entries.{lastIs, has, bareMatches, patternMatches}
 use Rattle.entries.proofs.ByteLaws.{ends-last, front-last}
@@ -54,17 +54,14 @@ module _ (fold : Bool) (rest component : List ℕ) where
     texts-empty [] h = refl
     texts-empty (x ∷ p) h = absurd (omega arith)
 
-    last-place : (p : List ℕ) → (length p ≡ 0 → ⊥) → length p ≡ suc (length p - 1)
-    last-place p n = omega arith
-
     -- no last `/`
     pub texts-plain : (p : List ℕ) (r : Bool) → (length p ≡ 0 → ⊥) → (getD p (length p - 1) 0 ≡ 47 → ⊥) → r ≡ bareMatches fold rest component p → r ≡ patternMatches fold directory rest component p
     unfolding patternMatches
-    texts-plain p r n f e = rw (ends-last 47 p (length p - 1) (last-place p n) ∙ ne-eqb (getD p (length p - 1) 0) 47 f) e
+    texts-plain p r n f e = rw (ends-last 47 p (length p - 1) (one-after (length p) n) ∙ ne-eqb (getD p (length p - 1) 0) 47 f) e
 
     -- a last `/`
     ends-slash : (p : List ℕ) → (length p ≡ 0 → ⊥) → getD p (length p - 1) 0 ≡ 47 → lastIs 47 p ≡ true
-    ends-slash p n f = ends-last 47 p (length p - 1) (last-place p n) ∙ eq-eqb (getD p (length p - 1) 0) 47 f
+    ends-slash p n f = ends-last 47 p (length p - 1) (one-after (length p) n) ∙ eq-eqb (getD p (length p - 1) 0) 47 f
 
     pub texts-file : (p : List ℕ) → (length p ≡ 0 → ⊥) → getD p (length p - 1) 0 ≡ 47 → directory ≡ false → patternMatches fold directory rest component p ≡ false
     unfolding patternMatches
@@ -72,4 +69,4 @@ module _ (fold : Bool) (rest component : List ℕ) where
 
     pub texts-directory : (p : List ℕ) (r : Bool) → (length p ≡ 0 → ⊥) → getD p (length p - 1) 0 ≡ 47 → directory ≡ true → r ≡ bareMatches fold rest component (take (length p - 1) p) → r ≡ patternMatches fold directory rest component p
     unfolding patternMatches
-    texts-directory p r n f d e = rw (ends-slash p n f, d, front-last p (length p - 1) (last-place p n)) e
+    texts-directory p r n f d e = rw (ends-slash p n f, d, front-last p (length p - 1) (one-after (length p) n)) e

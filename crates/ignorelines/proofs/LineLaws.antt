@@ -1,25 +1,20 @@
 -- A line's CR, trailing spaces, `!` and first byte, by the tests of the code.
 use Prim.Native.Nat.{ℕ, zero, suc, _+_, _-_, _<_, _≤_}
 use native.Mathlib.Omega.{arith}
-use native.Mathlib.Numerals.{add-one}
 use mathlib.Core.Path.{_≡_, refl, sym, ap, _∙_}
 use mathlib.Core.Bool.{Bool, true, false, cond}
 use mathlib.Core.List.{List, [], _∷_}
 use mathlib.Core.Option.{none, some}
 use lib.Dec.{eqb}
 use lib.ListN.{length, take, drop, getD, drop-of-length-le}
-use lib.Seq.{drop-cons}
 use borrow.Author.Tests.{eq-eqb, ne-eqb, eqb-true}
-use Rattle.wildmatch.proofs.Parts.{from, from-drop}
-use Rattle.entries.specs.Entries.{lastIs, patternMatches}
+use Rattle.wildmatch.proofs.Parts.{from, from-drop, next, one-after}
+use Rattle.entries.specs.Entries.{patternMatches}
 use Rattle.entries.proofs.ByteLaws.{ends-last, front-last}
 use Rattle.entries.proofs.PatternLaws.{texts-empty}
 use Rattle.ignorelines.specs.IgnoreLines.{ignored, re-included, withoutCr, skipped, spaceBefore, kept, stripped, negated, withoutNot, ruleWord, bytesWord, verdictOf}
 use Rattle.ignorelines.specs.Scan.{escapesNext, keptAfter}
 use Rattle.ignorelines.specs.declared.Word.{Word}
-
-last-place : (l : List ℕ) → (length l ≡ 0 → ⊥) → length l ≡ suc (length l - 1)
-last-place l n = omega arith
 
 -- the CR
 pub cr-empty : (l : List ℕ) → length l ≡ 0 → l ≡ withoutCr l
@@ -30,11 +25,11 @@ cr-empty (x ∷ l) h = absurd (omega arith)
 pub cr-dropped : (l : List ℕ) → (length l ≡ 0 → ⊥) → getD l (length l - 1) 0 ≡ 13 → take (length l - 1) l ≡ withoutCr l
 unfolding withoutCr
 cr-dropped l n e =
-    rw (ends-last 13 l (length l - 1) (last-place l n) ∙ eq-eqb (getD l (length l - 1) 0) 13 e) (sym (front-last l (length l - 1) (last-place l n)))
+    rw (ends-last 13 l (length l - 1) (one-after (length l) n) ∙ eq-eqb (getD l (length l - 1) 0) 13 e) (sym (front-last l (length l - 1) (one-after (length l) n)))
 
 pub cr-none : (l : List ℕ) → (length l ≡ 0 → ⊥) → (getD l (length l - 1) 0 ≡ 13 → ⊥) → l ≡ withoutCr l
 unfolding withoutCr
-cr-none l n e = rw (ends-last 13 l (length l - 1) (last-place l n) ∙ ne-eqb (getD l (length l - 1) 0) 13 e)
+cr-none l n e = rw (ends-last 13 l (length l - 1) (one-after (length l) n) ∙ ne-eqb (getD l (length l - 1) 0) 13 e)
 
 -- trailing spaces: what stays where n bytes stay from place i on, and `keep` before it
 abbrev pub reach : ℕ → ℕ → ℕ → ℕ
@@ -58,9 +53,6 @@ kept-front b s keep i false = go (eqb b 92) (eqb b 32) (λ e. ap (λ (x : ℕ). 
     go true q e = rw (e refl) (reach-keeps keep i (kept true s))
     go false true e = reach-space keep i (kept false s)
     go false false e = reach-keeps keep i (kept false s)
-
-next : (s : List ℕ) (i : ℕ) → i < length s → drop i s ≡ getD s i 0 ∷ drop (i + 1) s
-next s i h = rw (add-one i) (drop-cons s i 0 h)
 
 pub kept-step : (s : List ℕ) (keep i : ℕ) (escaped : Bool) → i < length s → reach keep i (kept escaped (drop i s)) ≡ reach (keptAfter keep (i + 1) (getD s i 0) escaped) (i + 1) (kept (escapesNext (getD s i 0) escaped) (drop (i + 1) s))
 kept-step s keep i escaped h = ap (λ (d : List ℕ). reach keep i (kept escaped d)) (next s i h) ∙ kept-front (getD s i 0) (drop (i + 1) s) keep i escaped
@@ -97,7 +89,7 @@ kept-last false (x ∷ y ∷ s) (suc n) h e = go (eqb x 92) (eqb x 32) (kept-las
     go false false a b = ap suc b
 
 pub kept-all : (s : List ℕ) → (length s ≡ 0 → ⊥) → (getD s (length s - 1) 0 ≡ 32 → ⊥) → length s ≡ kept false s
-kept-all s n e = last-place s n ∙ sym (kept-last false s (length s - 1) (last-place s n) e)
+kept-all s n e = one-after (length s) n ∙ sym (kept-last false s (length s - 1) (one-after (length s) n) e)
 
 pub kept-empty : (s : List ℕ) → length s ≡ 0 → 0 ≡ kept false s
 unfolding kept

@@ -5,7 +5,8 @@ use mathlib.Core.Path.{_≡_, refl, sym, ap, _∙_}
 use mathlib.Core.List.{List, [], _∷_}
 use mathlib.Core.Option.{Option, none, some}
 use lib.ListN.{length, take, drop, getD, drop-of-length-le}
-use lib.Seq.{drop-cons, drop-drop}
+use lib.Seq.{drop-drop}
+use Rattle.wildmatch.proofs.Parts.{next}
 use Rattle.rulefiles.specs.RuleFiles.{File, Line, part, split, bomLength, filesFrom, linesFrom, linesOf, linesOfAll}
 use Rattle.rulefiles.specs.Last.{Decision, placeOf, said, joined, lastSaid}
 use Rattle.rulefiles.proofs.PartLaws.{part-upto}
@@ -51,9 +52,6 @@ module _ {A : Type 0} (word : Line → Option A) where
   pub file-none : (f : File) → ((n k : ℕ) (b : List ℕ) → word (record { file = f .number; number = n; base = f .base; start = k; bytes = b }) ≡ none) → lastSaid word (linesOf f) ≡ none
   unfolding linesOf
   file-none f h = lines-none (f .number) (f .base) 1 (f .start + bomLength (f .bytes)) (split (drop (bomLength (f .bytes)) (f .bytes))) h
-
-  next : (l : List ℕ) (k : ℕ) → k < length l → drop k l ≡ getD l k 0 ∷ drop (k + 1) l
-  next l k h = rw (add-one k) (drop-cons l k 0 h)
 
   -- one turn: what was said before, with the file's word, and then the files after it
   pub file-turn : (rules ends bases : List ℕ) (k start : ℕ) (before after : Option (Decision A)) → k < length ends → k < length bases

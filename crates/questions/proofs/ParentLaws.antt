@@ -1,5 +1,5 @@
 -- The parents of an entry, from the parents of its own parent; and the rule from the top down over them.
-use Prim.Native.Nat.{ℕ, zero, suc, _-_, _<_, _≤_}
+use Prim.Native.Nat.{ℕ, zero, suc, _<_, _≤_}
 use native.Mathlib.Omega.{arith}
 use mathlib.Core.Path.{_≡_, refl, sym, ap, subst, _∙_}
 use mathlib.Core.Bool.{Bool, true, false, cond, _||_, false≢true}
@@ -123,7 +123,3 @@ calm v (p ∷ ps) e = go (ignores (v p)) (judged-calm (length (p .bytes)) (v p))
 
 pub never-refused : (v : Entry → Option (Decision Verdict)) (ps : List Entry) (e : Entry) (n : ℕ) → topDown v ps e ≡ Refused n → ⊥
 never-refused v ps e n h = false≢true (sym (calm v ps e) ∙ ap refuses h)
-
--- a place after another
-pub one-after : (at : ℕ) → (at ≡ 0 → ⊥) → at ≡ suc (at - 1)
-one-after at h = omega arith

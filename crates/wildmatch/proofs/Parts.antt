@@ -2,9 +2,10 @@
 use mathlib.Core.Path.{_≡_, refl, sym, ap, _∙_}
 use mathlib.Core.Bool.{Bool, true, false, false≢true}
 use mathlib.Core.List.{List}
-use Prim.Native.Nat.{ℕ, _+_, _-_, _≤_}
+use Prim.Native.Nat.{ℕ, suc, _+_, _-_, _≤_}
 use native.Mathlib.Omega.{arith}
 pub use Rattle.classes.proofs.MemberLaws.{from, from-drop}
+pub use Rattle.refusals.proofs.ScanLaws.{next}
 use lib.ListN.{length, drop, getD, length-drop}
 use lib.Seq.{drop-drop, getD-drop}
 
@@ -14,6 +15,10 @@ false-if-not false h = refl
 
 pub not-both : {b : Bool} → b ≡ true → b ≡ false → ⊥
 not-both {b} e h = false≢true (sym h ∙ e)
+
+-- a number that is not 0 follows another
+pub one-after : (n : ℕ) → (n ≡ 0 → ⊥) → n ≡ suc (n - 1)
+one-after n h = omega arith
 
 -- a place after place k, counted from k
 pub drop-on : (k j : ℕ) (l : List ℕ) → k ≤ j → drop (j - k) (drop k l) ≡ drop j l

@@ -15,7 +15,8 @@ use Rattle.questions.specs.Verdicts.{verdict}
 use Rattle.questions.specs.Scan.{ignoredAt, aboveOf}
 use Rattle.questions.specs.declared.ignore.Above.{Above}
 use Rattle.questions.proofs.VerdictLaws.{start-fits, entryOf}
-use Rattle.questions.proofs.ParentLaws.{above-top, above-step, one-after}
+use Rattle.questions.proofs.ParentLaws.{above-top, above-step}
+use Rattle.wildmatch.proofs.Parts.{one-after}
 use borrow.Fn.Kinds.{In}
 use borrow.Fn.PlainCycle.{Measures, is, falls, and}
 use Rattle.questions.proofs.ignore.ignored_above.Reads as ignored-above
