@@ -63,7 +63,7 @@ applies base e = ltb base (length (e .bytes))
 
 -- A pattern without its last `/`. "If a `/` is left anywhere, the pattern is anchored: one first `/` goes, and it is matched in path mode
 -- against" the rest, which is "the path with the rule file's directory cut off its front. Otherwise it is matched without path mode against
--- the last component". "An empty pattern matches nothing."
+-- the last component". "An empty pattern matches nothing." (specs/Meaning.antt says the same by the relation `Matches`.)
 unfoldable pub bareMatches : Bool → List ℕ → List ℕ → List ℕ → Bool
 bareMatches fold rest component p =
     not (isEmpty (withoutFirst p)) && matchesTest (record { path = has 47 p; fold = fold }) (withoutFirst p) (cond (has 47 p) rest component)
