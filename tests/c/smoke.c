@@ -1,25 +1,9 @@
 /* The archive from C: document 01's frames P1 to P12 in the four modes, its
  * run frames for the two questions, and each refusal that C can reach. Prints
  * one line; status 1 if any answer differs. */
-#include <stddef.h>
-#include <stdint.h>
+#include "fidshore.h"
 #include <stdio.h>
 #include <string.h>
-
-uint32_t fidshore_match(const uint8_t *pattern, size_t pattern_len, const uint8_t *text, size_t text_len,
-                        uint64_t flags);
-uint32_t fidshore_ignore(const uint8_t *rules, size_t rules_len, const uint8_t *path, size_t path_len,
-                         uint64_t flags);
-uint32_t fidshore_attribute(const uint8_t *rules, size_t rules_len, const uint8_t *path, size_t path_len,
-                            const uint8_t *name, size_t name_len, uint64_t flags);
-
-/* What the calls answer. */
-enum { NO_MATCH, MATCH };
-enum { NOTHING_SAID, IGNORED, RE_INCLUDED };
-enum { SET = 1, UNSET, VALUE, UNSPECIFIED };
-enum { REFUSED = 16 };
-/* Flags: the matcher's, and the questions'. */
-enum { PATH_MODE = 1, DIRECTORY = 1, FOLD = 2 };
 
 /* Answers in the order of the columns: path, path and fold, plain, plain and fold. */
 struct frame { const char *text, *pattern, *answers; };
@@ -38,7 +22,7 @@ static const struct frame frames[] = {
     { "", "", "1111" },
     { "ten", "**[!ten]", "0000" },
 };
-static const uint64_t columns[] = { PATH_MODE, PATH_MODE | FOLD, 0, FOLD };
+static const uint64_t columns[] = { FIDSHORE_PATH_MODE, FIDSHORE_PATH_MODE | FIDSHORE_FOLD, 0, FIDSHORE_FOLD };
 
 /* Bytes with their length; a C string's, or none at all. */
 struct bytes { const char *at; size_t len; };
@@ -93,70 +77,70 @@ static void matcher(void)
     for (size_t i = 0; i < sizeof frames / sizeof *frames; i++)
         for (size_t k = 0; k < 4; k++)
             match(str(frames[i].pattern), str(frames[i].text), columns[k], (uint32_t)(frames[i].answers[k] - '0'));
-    match(fill(2048), fill(2048), 0, MATCH);
-    match(fill(2049), fill(2049), 0, REFUSED + 7);
-    match(str("*"), fill(4096), 0, MATCH);
-    match(str("*"), fill(4097), 0, REFUSED + 7);
-    match((struct bytes){ "a\0", 2 }, str("a"), 0, REFUSED + 8);
-    match(str("a"), (struct bytes){ "\0a", 2 }, UINT64_MAX, REFUSED + 8);
-    match(str("a"), str("a"), 4, REFUSED + 9);
-    match(str("a"), str("a"), UINT64_C(1) << 32, REFUSED + 9);
-    match(none, none, PATH_MODE, MATCH);
+    match(fill(FIDSHORE_PATTERN_LIMIT), fill(FIDSHORE_PATTERN_LIMIT), 0, FIDSHORE_MATCH);
+    match(fill(FIDSHORE_PATTERN_LIMIT + 1), fill(FIDSHORE_PATTERN_LIMIT + 1), 0, FIDSHORE_REFUSED + 7);
+    match(str("*"), fill(FIDSHORE_TEXT_LIMIT), 0, FIDSHORE_MATCH);
+    match(str("*"), fill(FIDSHORE_TEXT_LIMIT + 1), 0, FIDSHORE_REFUSED + 7);
+    match((struct bytes){ "a\0", 2 }, str("a"), 0, FIDSHORE_REFUSED + 8);
+    match(str("a"), (struct bytes){ "\0a", 2 }, UINT64_MAX, FIDSHORE_REFUSED + 8);
+    match(str("a"), str("a"), 4, FIDSHORE_REFUSED + 9);
+    match(str("a"), str("a"), UINT64_C(1) << 32, FIDSHORE_REFUSED + 9);
+    match(none, none, FIDSHORE_PATH_MODE, FIDSHORE_MATCH);
 }
 
 /* Document 01, "Frames that must come out right", and the other states. */
 static void run_frames(void)
 {
-    ignore(str("cal/\n!cal/h07\n"), str("cal/h07"), 0, IGNORED);
-    ignore(str("*.h\n!a.h\n"), str("a.h"), 0, RE_INCLUDED);
-    ignore(str("git/\n"), str("git-foo"), DIRECTORY, NOTHING_SAID);
-    ignore(str("git/\n"), str("git"), DIRECTORY, IGNORED);
-    ignore(str("git/\n"), str("git"), 0, NOTHING_SAID);
-    ignore(str("GIT/\n"), str("git"), DIRECTORY | FOLD, IGNORED);
-    attribute(str("* fill -fill\n"), str("sky.nc"), str("fill"), 0, UNSET);
-    attribute(str("* fill\n"), str("a/sky.nc"), str("fill"), 0, SET);
-    attribute(str("* fill=mean\n"), str("sky.nc"), str("fill"), 0, VALUE);
-    attribute(str("* fill\n*.nc !fill\n"), str("sky.nc"), str("fill"), 0, UNSPECIFIED);
-    attribute(str("*.NC fill\n"), str("sky.nc"), str("fill"), 0, NOTHING_SAID);
-    attribute(str("*.NC fill\n"), str("sky.nc"), str("fill"), FOLD, SET);
+    ignore(str("cal/\n!cal/h07\n"), str("cal/h07"), 0, FIDSHORE_IGNORED);
+    ignore(str("*.h\n!a.h\n"), str("a.h"), 0, FIDSHORE_RE_INCLUDED);
+    ignore(str("git/\n"), str("git-foo"), FIDSHORE_DIRECTORY, FIDSHORE_NOTHING_SAID);
+    ignore(str("git/\n"), str("git"), FIDSHORE_DIRECTORY, FIDSHORE_IGNORED);
+    ignore(str("git/\n"), str("git"), 0, FIDSHORE_NOTHING_SAID);
+    ignore(str("GIT/\n"), str("git"), FIDSHORE_DIRECTORY | FIDSHORE_FOLD, FIDSHORE_IGNORED);
+    attribute(str("* fill -fill\n"), str("sky.nc"), str("fill"), 0, FIDSHORE_UNSET);
+    attribute(str("* fill\n"), str("a/sky.nc"), str("fill"), 0, FIDSHORE_SET);
+    attribute(str("* fill=mean\n"), str("sky.nc"), str("fill"), 0, FIDSHORE_VALUE);
+    attribute(str("* fill\n*.nc !fill\n"), str("sky.nc"), str("fill"), 0, FIDSHORE_UNSPECIFIED);
+    attribute(str("*.NC fill\n"), str("sky.nc"), str("fill"), 0, FIDSHORE_NOTHING_SAID);
+    attribute(str("*.NC fill\n"), str("sky.nc"), str("fill"), FIDSHORE_FOLD, FIDSHORE_SET);
 }
 
 /* Refusals 1, 3, 4, 5 and 9 of both questions, and both sides of the limits. */
 static void refusals(void)
 {
     struct bytes rules = str("a fill\n");
-    both(rules, str("a/"), 0, REFUSED + 1);
-    both(rules, str("a/../b"), 0, REFUSED + 1);
-    both(rules, none, 0, REFUSED + 1);
-    both(rules, fill(4096), 0, NOTHING_SAID);
-    both(rules, fill(4097), 0, REFUSED + 1);
+    both(rules, str("a/"), 0, FIDSHORE_REFUSED + 1);
+    both(rules, str("a/../b"), 0, FIDSHORE_REFUSED + 1);
+    both(rules, none, 0, FIDSHORE_REFUSED + 1);
+    both(rules, fill(FIDSHORE_PATH_LIMIT), 0, FIDSHORE_NOTHING_SAID);
+    both(rules, fill(FIDSHORE_PATH_LIMIT + 1), 0, FIDSHORE_REFUSED + 1);
     for (size_t i = 0; i < 2; i++) {
-        struct bytes long_rules = fill(65536 + i);
+        struct bytes long_rules = fill(FIDSHORE_RULES_LIMIT + i);
         for (size_t at = 63; at < long_rules.len; at += 64) filled[at] = '\n';
-        both(long_rules, str("b"), 0, i ? REFUSED + 3 : NOTHING_SAID);
+        both(long_rules, str("b"), 0, i ? FIDSHORE_REFUSED + 3 : FIDSHORE_NOTHING_SAID);
     }
-    both((struct bytes){ "a\0\n", 3 }, str("a"), 0, REFUSED + 4);
-    both(fill(2048), str("b"), 0, NOTHING_SAID);
-    both(fill(2049), str("b"), 0, REFUSED + 5);
-    both(rules, str("b"), 4, REFUSED + 9);
-    both(rules, str("b"), UINT64_C(1) << 32, REFUSED + 9);
-    both(rules, str("b"), UINT64_MAX, REFUSED + 9);
-    both(none, str("a"), 0, NOTHING_SAID);
+    both((struct bytes){ "a\0\n", 3 }, str("a"), 0, FIDSHORE_REFUSED + 4);
+    both(fill(FIDSHORE_LINE_LIMIT), str("b"), 0, FIDSHORE_NOTHING_SAID);
+    both(fill(FIDSHORE_LINE_LIMIT + 1), str("b"), 0, FIDSHORE_REFUSED + 5);
+    both(rules, str("b"), 4, FIDSHORE_REFUSED + 9);
+    both(rules, str("b"), UINT64_C(1) << 32, FIDSHORE_REFUSED + 9);
+    both(rules, str("b"), UINT64_MAX, FIDSHORE_REFUSED + 9);
+    both(none, str("a"), 0, FIDSHORE_NOTHING_SAID);
     /* Several hold: the lowest is answered. */
-    both((struct bytes){ "\0", 1 }, str("/a"), 4, REFUSED + 1);
-    both((struct bytes){ "\0", 1 }, str("a"), 4, REFUSED + 4);
+    both((struct bytes){ "\0", 1 }, str("/a"), 4, FIDSHORE_REFUSED + 1);
+    both((struct bytes){ "\0", 1 }, str("a"), 4, FIDSHORE_REFUSED + 4);
 }
 
 /* Refusal 6. */
 static void names(void)
 {
     struct bytes rules = str("a fill\n"), path = str("a");
-    attribute(rules, path, none, 0, REFUSED + 6);
-    attribute(rules, path, str("-fill"), 0, REFUSED + 6);
-    attribute(rules, path, str("fi ll"), 0, REFUSED + 6);
-    attribute(rules, path, str("-fill"), 4, REFUSED + 6);
-    attribute(rules, path, fill(255), 0, NOTHING_SAID);
-    attribute(rules, path, fill(256), 0, REFUSED + 6);
+    attribute(rules, path, none, 0, FIDSHORE_REFUSED + 6);
+    attribute(rules, path, str("-fill"), 0, FIDSHORE_REFUSED + 6);
+    attribute(rules, path, str("fi ll"), 0, FIDSHORE_REFUSED + 6);
+    attribute(rules, path, str("-fill"), 4, FIDSHORE_REFUSED + 6);
+    attribute(rules, path, fill(FIDSHORE_NAME_LIMIT), 0, FIDSHORE_NOTHING_SAID);
+    attribute(rules, path, fill(FIDSHORE_NAME_LIMIT + 1), 0, FIDSHORE_REFUSED + 6);
 }
 
 int main(void)
