@@ -23,6 +23,7 @@ pub mod crash;
 pub mod fence;
 pub mod hex;
 pub mod painted;
+pub mod program;
 pub mod random;
 pub mod timing;
 

@@ -16,20 +16,9 @@ extern "C" {
     ) -> u32;
 }
 
+#[derive(Default)]
 pub struct Calls {
     lent: Lent,
-}
-
-impl Default for Calls {
-    fn default() -> Calls {
-        Calls::new()
-    }
-}
-
-impl Calls {
-    pub fn new() -> Calls {
-        Calls { lent: Lent::new() }
-    }
 }
 
 impl Asks for Calls {

@@ -13,18 +13,14 @@ pub struct Lent {
 }
 
 impl Default for Lent {
+    /// Room for what is over the limits too.
     fn default() -> Lent {
-        Lent::new()
+        let [path, rules, ends, bases, name] = [8_192, 81_920, 4_096, 4_096, 4_096].map(Fence::new);
+        Lent { path, rules, ends, bases, name, side: Side::End }
     }
 }
 
 impl Lent {
-    /// Room for what is over the limits too.
-    pub fn new() -> Lent {
-        let [path, rules, ends, bases, name] = [8_192, 81_920, 4_096, 4_096, 4_096].map(Fence::new);
-        Lent { path, rules, ends, bases, name, side: Side::End }
-    }
-
     /// Copies everything behind the fences, from one side and the other in
     /// turn, and remembers the question for the case of a crash.
     pub fn lend(&mut self, question: &Question) {

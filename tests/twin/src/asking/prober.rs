@@ -47,20 +47,9 @@ struct Places<'a> {
     name: Option<&'a [u8]>,
 }
 
+#[derive(Default)]
 pub struct Prober {
     lent: Lent,
-}
-
-impl Default for Prober {
-    fn default() -> Prober {
-        Prober::new()
-    }
-}
-
-impl Prober {
-    pub fn new() -> Prober {
-        Prober { lent: Lent::new() }
-    }
 }
 
 impl Asks for Prober {

@@ -10,7 +10,7 @@ use twin::asking::{form, Asks};
 use twin::reader;
 
 fn main() {
-    let mut prober = Prober::new();
+    let mut prober = Prober::default();
     let twin = args().nth(1).is_some_and(|word| word == "twin");
     let mut out = BufWriter::new(stdout().lock());
     for line in stdin().lock().lines() {

@@ -1,36 +1,19 @@
 //! The archive against the twin.
 //!
 //! usage: differential [random cases, default 200000] [seed, default 1] [quick|full, default quick]
-use std::env::args;
-use std::process::exit;
 use twin::check::{Check, Count};
 use twin::exhaustive::Extent;
+use twin::program::{self, Words};
 use twin::random::Random;
 use twin::{boundary, crash, exhaustive, grammar, hostile, rows};
 
 fn main() {
-    let words: Vec<String> = args().skip(1).collect();
-    let number = |at: usize, default: u64| match words.get(at) {
-        Some(word) => word.parse().unwrap_or_else(|_| usage()),
-        None => default,
-    };
-    let (cases, seed) = (number(0, 200_000), number(1, 1));
-    let extent = match words.get(2).map(String::as_str) {
-        None | Some("quick") => Extent::Quick,
-        Some("full") => Extent::Full,
-        _ => usage(),
-    };
+    let words = Words::read("differential [random cases] [seed] [quick|full]");
+    let (cases, seed) = (words.number(0, 200_000), words.number(1, 1));
+    let extent = if words.full(2) { Extent::Full } else { Extent::Quick };
     crash::report();
     let counts = parts(cases, seed, extent);
-    let total: u64 = counts.iter().map(|c| c.cases).sum();
-    let differences: u64 = counts.iter().map(|c| c.differences).sum();
-    println!("differential: {total} cases, {differences} differences");
-    exit((differences > 0) as i32);
-}
-
-fn usage() -> ! {
-    eprintln!("usage: differential [random cases] [seed] [quick|full]");
-    exit(2)
+    program::end("differential", "cases", counts.iter().map(|c| (c.cases, c.differences)));
 }
 
 fn parts(cases: u64, seed: u64, extent: Extent) -> Vec<Count> {
