@@ -1,0 +1,35 @@
+// Which line decided? Answers, for each path of a listing on standard input, what rule files say of it, and the entry, the file
+// and the line that decided. `whichline --help` says how it is asked.
+mod answers;
+mod arguments;
+mod buffers;
+mod fields;
+mod given;
+mod listing;
+mod reading;
+mod words;
+
+use crate::arguments::Asked;
+
+fn main() {
+    if arguments::wants_help() {
+        words::help();
+        return;
+    }
+    let mut name = io::buffer();
+    let asked = arguments::what_is_asked(&mut name);
+    match asked {
+        Asked::Ignore => answers::run(false, &name, 2),
+        Asked::Attribute(n) => run_attribute(&name, n),
+        Asked::Wrong => words::wrong(
+            b"say `ignore`, or `attribute` and its name, and then the rule files",
+        ),
+    }
+}
+
+// Asks for the attribute whose name is the first `n` bytes.
+fn run_attribute(name: &[u8], n: usize) {
+    if n <= name.len() {
+        answers::run(true, &name[..n], 3);
+    }
+}
