@@ -2,6 +2,7 @@
 #
 #   make demo                 the loader over the sample archive, compared with examples/expected.txt
 #   make test                 the gate
+#   make bench                times beside git and fnmatch: tables, and a picture in target/bench
 #   make install PREFIX=...   the archive, the header and a pkg-config file
 #   make clean                removes what `make demo` made
 
@@ -17,7 +18,7 @@ made = target/demo
 prefix = $(abspath $(PREFIX))
 place = $(DESTDIR)$(prefix)
 
-.PHONY: demo test install clean
+.PHONY: demo test bench install clean
 
 # Compiled each time, so that it is never the loader of another archive. One path of the listing is refused, so it must end with status 1.
 demo: $(archive)
@@ -30,6 +31,9 @@ demo: $(archive)
 
 test:
 	.ci/run
+
+bench: $(archive)
+	ARCHIVE=$(archive) bench/run
 
 install: $(archive)
 	install -d $(place)/lib/pkgconfig $(place)/include

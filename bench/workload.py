@@ -1,0 +1,148 @@
+"""What the workers are asked: tables of columns, a column being a list of questions.
+
+Rule files and paths are drawn from a seeded generator: the usual lines of an
+archive of sky images and hourly files, a few of them alive, with negations,
+directories, anchors, classes and `**`. Same seed, same questions.
+"""
+import pathlib
+import random
+import urllib.parse
+
+ROWS = pathlib.Path(__file__).resolve().parent.parent / "crates/tables/data/document-001.tsv"
+SEED = 20260314
+RULES_LIMIT = 65536
+SLOW_ROW = "148"    # takes most of git 2.39.5's time
+
+LINES = (10, 30, 100, 300, 1000, 3000)
+COMPONENTS = (1, 2, 4, 8, 16, 32, 64)
+STARS = (1, 2, 3, 4, 5, 6, 8, 16, 32, 64)
+CROSSINGS = (1, 2, 4, 8, 16, 29)
+
+IGNORE = ["*.tmp", "/scratch/", "cal/", "!site07/cal/", "doc/**/*.pdf", "*.log", "!audit.log", "**/h0[0-3]/dark_*",
+          "# loggers", "*.nc.part", "*~", "*.sw[op]", "/site39/", "thumbs/*.png", "!thumbs/day.png", "**/quicklook",
+          "core", "raw/**/*.bin", "irr_????.nc.new", ".cache/"]
+MORE_IGNORE = ["*.{ext}{i}", "/{stem}{i}/", "{stem}_{i}_*.{ext}", "!{stem}{i}.{ext}", "{stem}{i}/**/*.{ext}", "{stem}{i}/",
+               "**/{stem}{i}", "{stem}[0-9]_{i}.{ext}", "# {stem} {i}", "fleet/{stem}{i}/*", "{stem}?{i}*.{ext}"]
+ATTRIBUTES = ["*.nc fill", "*.fits -fill", "sky_*.nc unit=counts", "**/cal/** !fill", "fleet/cal/*.fits fill=dark", "*.csv text",
+              "/site39/** -fill", "**/h0[0-3]/* fill=night", "# loggers", "*.png -text"]
+MORE_ATTRIBUTES = ["*.{ext}{i} fill", "/{stem}{i}/** -fill", "{stem}_{i}_*.{ext} unit=k", "**/{stem}{i} !fill",
+                   "{stem}{i}/*.{ext} -text", "{stem}[0-9]_{i}.{ext} fill"]
+# Lines that end in a wildcard: the last byte of an entry rules none of them out.
+OPEN = ["{stem}_{i}_*", "{stem}{i}/*", "**/{stem}{i}*", "!{stem}{i}?", "/{stem}{i}*"]
+STEMS = ["sky", "irr", "dark", "flat", "mask", "ghi", "dni", "cam"]
+EXTENSIONS = ["nc", "nc", "fits", "csv", "png", "jpg", "json", "bak"]
+
+
+def lines(usual, more, count, seed):
+    """So many lines: the usual ones, spread evenly among drawn ones."""
+    draw = random.Random(seed)
+    alive = usual[:count]
+    drawn = [more[i % len(more)].format(ext=draw.choice(EXTENSIONS), stem=draw.choice(STEMS), i=i)
+             for i in range(count - len(alive))]
+    step = len(drawn) // len(alive)
+    out = []
+    for i, line in enumerate(alive):
+        out += drawn[i * step:(i + 1) * step] + [line]
+    out += drawn[len(alive) * step:]
+    rules = "".join(line + "\n" for line in out).encode()
+    assert len(out) == count and len(rules) <= RULES_LIMIT
+    return rules
+
+
+def path(draw):
+    """A path as the archive has them, and 1 if it is a directory."""
+    site, day, hour = f"site{draw.randrange(40):02}", f"2026/{draw.randrange(1, 13):02}/{draw.randrange(1, 29):02}", draw.randrange(24)
+    kinds = [(50, f"{site}/{day}/h{hour:02}/sky_{hour:02}{draw.randrange(60):02}.nc"),
+             (22, f"{site}/{day}/h{hour:02}/irr_{hour:02}00.nc"),
+             (6, f"{site}/{day}/quicklook/day.png"),
+             (6, f"{site}/cal/flat_{draw.randrange(99)}.fits"),
+             (4, f"fleet/cal/dark_{draw.randrange(99)}.fits"),
+             (3, f"raw/{site}/{draw.randrange(999)}.bin"),
+             (3, f"logs/{draw.choice(['audit', 'net', 'cam'])}.log"),
+             (3, f"doc/notes/{draw.randrange(99)}.{draw.choice(['pdf', 'md'])}"),
+             (3, f"{site}/{day}/")]
+    chosen = draw.choices([p for _, p in kinds], [weight for weight, _ in kinds])[0]
+    return chosen.rstrip("/").encode(), int(chosen.endswith("/"))
+
+
+def paths(count=1000):
+    draw = random.Random(SEED)
+    return [path(draw) for _ in range(count)]
+
+
+def deep_paths(components, count=100):
+    """Directories that no line ignores, so that every component is judged, and a file."""
+    draw = random.Random(SEED + components)
+    above = [[f"{draw.choice(['year', 'month', 'day', 'set'])}{draw.randrange(100):02}" for _ in range(components - 1)]
+             for _ in range(count)]
+    return [("/".join(names + [f"sky_{draw.randrange(2400):04}.nc"]).encode(), 0) for names in above]
+
+
+def asked(rules, about):
+    return [(rules, name, directory) for name, directory in about]
+
+
+def rows():
+    """The numbered rows of 001: number, pattern, text."""
+    for line in ROWS.read_text().split("\n"):
+        fields = line.split("\t")
+        if len(fields) == 4 and not line.startswith(("#", "1.13.")):
+            pattern, text = (urllib.parse.unquote_to_bytes(field) for field in fields[1:3])
+            yield fields[0].split(".")[2], pattern, text
+
+
+def one(pattern, text):
+    return [(pattern, text, 1)]
+
+
+class Table:
+    """Columns of questions for one call. A worker has `patience` seconds for a
+    column's answers; in a growing table it is not asked the columns after one
+    that took it longer. A time is that of at least `ms` milliseconds."""
+
+    def __init__(self, name, call, columns, growing=True, patience=3, rounds=5, ms=20):
+        self.name, self.call, self.columns = name, call, columns
+        self.growing, self.patience, self.rounds, self.ms = growing, patience, rounds, ms
+
+    def crosses(self, column):
+        """Does the column hang on `**`, which fnmatch does not have?"""
+        return self.name == "crossing" or column == "dirs"
+
+
+def rows_table():
+    asks = [(number, (pattern, text, 1)) for number, pattern, text in rows()]
+    assert len(asks) == 190
+    columns = {"all": [ask for _, ask in asks], "quick": [ask for number, ask in asks if number != SLOW_ROW]}
+    return Table("rows", "match", columns, growing=False, rounds=9, ms=60)
+
+
+def tables():
+    stars = {k: one(b"*a" * k, b"a" * 127 + b"b") for k in STARS}
+    crossing = {k: one(b"**/a/" * k + b"b", b"a/" * 30 + b"c") for k in CROSSINGS}
+    limits = {"stars": one(b"*a" * 1024, b"a" * 4095 + b"b"), "dirs": one(b"**/a/" * 409 + b"b", b"a/" * 2047 + b"c"),
+              "class": one(b"*[ab]" * 409, b"a" * 4095 + b"c")}
+    about = paths()
+    ignore = {n: asked(lines(IGNORE, MORE_IGNORE, n, SEED), about) for n in LINES}
+    attribute = {n: asked(lines(ATTRIBUTES, MORE_ATTRIBUTES, n, SEED), about) for n in LINES}
+    open_ended = {n: asked(lines(["thumbs*"], OPEN, n, SEED), about) for n in LINES if n <= 1000}
+    components = {n: asked(lines(IGNORE, MORE_IGNORE, 100, SEED), deep_paths(n)) for n in COMPONENTS}
+    return [rows_table(),
+            Table("stars", "match", stars),
+            Table("crossing", "match", crossing),
+            Table("limits", "match", limits, growing=False),
+            Table("ignore", "ignore", ignore, patience=60, ms=60),
+            Table("open", "ignore", open_ended, patience=60, ms=60),
+            Table("attribute", "attribute", attribute, patience=60, ms=60),
+            Table("components", "ignore", components, patience=60)]
+
+
+def write(table, column, file):
+    """A column as worker.c reads it."""
+    def field(value, before):
+        return "=" if value == before else value.hex() or "-"
+
+    out, last = [table.call], (None, None)
+    for first, second, flags in table.columns[column]:
+        out.append(f"{field(first, last[0])}\t{field(second, last[1])}\t{flags}")
+        last = (first, second)
+    file.write_text("\n".join(out) + "\n")
