@@ -1,4 +1,6 @@
 -- what a reader must believe
 pub mod Lending
+-- theorems about it
+pub mod Meaning
 -- inner: what a private contract cites
 pub mod Room
