@@ -1,5 +1,5 @@
 -- Demand 3, as one claim over both questions, every cut and every choice of overwritten lines. What the calls answer is what their contracts allow
--- (`IgnoreAnswered`, `AttributeAnswered`): the functions `ignore` and `attribute` of `questions` are proved to give such an answer, and there is only one.
+-- (`IgnoreAnswered`, `AttributeAnswered`): the functions `ignore` and `attribute` of `questions` are proved to give such an answer, and `OneAnswer` that there is only one.
 use Prim.Native.Nat.{ℕ}
 use mathlib.Core.Path.{_≡_}
 use mathlib.Core.Bool.{Bool, true}

@@ -14,3 +14,4 @@ pub mod BlankFiles
 pub mod BlankRefusals
 pub mod Theorem
 pub mod Uses
+pub mod OneAnswer
