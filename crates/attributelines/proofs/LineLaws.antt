@@ -10,7 +10,8 @@ use Rattle.rulefiles.proofs.LastLaws.{joined-assoc, joined-none}
 use Rattle.rulefiles.proofs.PartLaws.{upto-part}
 use Rattle.refusals.specs.Questions.{goodName}
 use Rattle.entries.specs.Entries.{patternMatches}
-use Rattle.attributelines.specs.AttributeLines.{Piece, Mention, mention, same, stateFor, goodNames, lastMention, pieces, patternDropped, ruleState, bytesState}
+use Rattle.classes.specs.Names.{sameBytes}
+use Rattle.attributelines.specs.AttributeLines.{Piece, Mention, mention, stateFor, goodNames, lastMention, pieces, patternDropped, ruleState, bytesState}
 use Rattle.attributelines.specs.Scan.{blankLength, wordLength, mentionsState}
 use Rattle.attributelines.specs.declared.State.{State}
 use Rattle.attributelines.proofs.WordLaws.{pieces-next}
@@ -36,11 +37,11 @@ module _ (attribute : List ℕ) where
     unfolding pending
     pending-bad e = rw e
 
-    pub pending-said : goodName (named .name) ≡ true → same (named .name) attribute ≡ true → pending attribute before (w ∷ ws) ≡ pending attribute (some (named .state)) ws
+    pub pending-said : goodName (named .name) ≡ true → sameBytes (named .name) attribute ≡ true → pending attribute before (w ∷ ws) ≡ pending attribute (some (named .state)) ws
     unfolding pending stateFor
     pending-said g e = rw (g, e) (ap (λ (o : Option State). cond (goodNames ws) o none) (sym (joined-assoc before (some (named .state)) (lastMention attribute ws))))
 
-    pub pending-other : goodName (named .name) ≡ true → same (named .name) attribute ≡ false → pending attribute before (w ∷ ws) ≡ pending attribute before ws
+    pub pending-other : goodName (named .name) ≡ true → sameBytes (named .name) attribute ≡ false → pending attribute before (w ∷ ws) ≡ pending attribute before ws
     unfolding pending stateFor
     pending-other g e = rw (g, e) (ap (λ (o : Option State). cond (goodNames ws) o none) (sym (joined-assoc before none (lastMention attribute ws))))
 
@@ -59,19 +60,19 @@ module _ (attribute s : List ℕ) (i start end : ℕ) (before : Option State) (n
   unfolding word
   turn-bad b = ap (pending attribute before) cut ∙ pending-bad attribute before word (pieces end (drop end s)) (ap goodName (sym n) ∙ sym g ∙ b)
 
-  pub turn-said : (state : State) → good ≡ true → alike ≡ same name attribute → alike ≡ true → state ≡ mention start (drop start (take end s)) .state
+  pub turn-said : (state : State) → good ≡ true → alike ≡ sameBytes name attribute → alike ≡ true → state ≡ mention start (drop start (take end s)) .state
       → pending attribute before (pieces i (drop i s)) ≡ pending attribute (some state) (pieces end (drop end s))
   unfolding word
   turn-said state b a t q =
       ap (pending attribute before) cut
-      ∙ pending-said attribute before word (pieces end (drop end s)) (ap goodName (sym n) ∙ sym g ∙ b) (ap (λ (x : List ℕ). same x attribute) (sym n) ∙ sym a ∙ t)
+      ∙ pending-said attribute before word (pieces end (drop end s)) (ap goodName (sym n) ∙ sym g ∙ b) (ap (λ (x : List ℕ). sameBytes x attribute) (sym n) ∙ sym a ∙ t)
       ∙ ap (λ (x : State). pending attribute (some x) (pieces end (drop end s))) (sym q)
 
-  pub turn-other : good ≡ true → alike ≡ same name attribute → alike ≡ false → pending attribute before (pieces i (drop i s)) ≡ pending attribute before (pieces end (drop end s))
+  pub turn-other : good ≡ true → alike ≡ sameBytes name attribute → alike ≡ false → pending attribute before (pieces i (drop i s)) ≡ pending attribute before (pieces end (drop end s))
   unfolding word
   turn-other b a t =
       ap (pending attribute before) cut
-      ∙ pending-other attribute before word (pieces end (drop end s)) (ap goodName (sym n) ∙ sym g ∙ b) (ap (λ (x : List ℕ). same x attribute) (sym n) ∙ sym a ∙ t)
+      ∙ pending-other attribute before word (pieces end (drop end s)) (ap goodName (sym n) ∙ sym g ∙ b) (ap (λ (x : List ℕ). sameBytes x attribute) (sym n) ∙ sym a ∙ t)
 
 -- the whole line: no words, a dropped pattern, one that does not match, one that does
 module _ (fold directory : Bool) (rest component attribute : List ℕ) (at : ℕ) (bytes : List ℕ) where

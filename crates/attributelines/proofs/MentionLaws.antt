@@ -8,29 +8,23 @@ use lib.Dec.{eqb}
 use lib.ListN.{length, take, drop, getD, length-drop, drop-of-length-le}
 use Rattle.wildmatch.proofs.Parts.{next}
 use borrow.Author.Tests.{eq-eqb, ne-eqb, lt-ltb, le-ltb}
+use Rattle.classes.specs.Names.{sameBytes}
 use Rattle.entries.specs.Entries.{has}
-use Rattle.attributelines.specs.AttributeLines.{nameLength, nameIn, Mention, plainMention, mention, beginsWith, definition, patternDropped, same}
+use Rattle.attributelines.specs.AttributeLines.{nameLength, nameIn, Mention, plainMention, mention, beginsWith, definition, patternDropped}
 use Rattle.attributelines.specs.declared.State.the-variants.{Set, Unset, Value, Unspecified}
 
 -- two names
-pub same-length : (a b : List ℕ) → (length a ≡ length b → ⊥) → false ≡ same a b
-same-length [] [] h = absurd (h refl)
-same-length [] (y ∷ b) h = refl
-same-length (x ∷ a) [] h = refl
-same-length (x ∷ a) (y ∷ b) h = go (eqb x y) (same-length a b (λ e. h (ap suc e)))
-  where
-    go : (c : Bool) → false ≡ same a b → false ≡ (c && same a b)
-    go true q = q
-    go false q = refl
-
 module _ (a b : List ℕ) (i : ℕ) (l : length a ≡ length b) where
-  pub same-next : i < length a → getD a i 0 ≡ getD b i 0 → same (drop i a) (drop i b) ≡ same (drop (i + 1) a) (drop (i + 1) b)
+  pub same-next : i < length a → getD a i 0 ≡ getD b i 0 → sameBytes (drop i a) (drop i b) ≡ sameBytes (drop (i + 1) a) (drop (i + 1) b)
+  unfolding sameBytes
   same-next h e = rw (next a i h, next b i (omega arith), eq-eqb (getD a i 0) (getD b i 0) e)
 
-  pub same-differs : i < length a → (getD a i 0 ≡ getD b i 0 → ⊥) → same (drop i a) (drop i b) ≡ false
+  pub same-differs : i < length a → (getD a i 0 ≡ getD b i 0 → ⊥) → sameBytes (drop i a) (drop i b) ≡ false
+  unfolding sameBytes
   same-differs h e = rw (next a i h, next b i (omega arith), ne-eqb (getD a i 0) (getD b i 0) e)
 
-  pub same-end : length a ≤ i → same (drop i a) (drop i b) ≡ true
+  pub same-end : length a ≤ i → sameBytes (drop i a) (drop i b) ≡ true
+  unfolding sameBytes
   same-end h = rw (drop-of-length-le a {i = i} h, drop-of-length-le b {i = i} (omega arith))
 
 -- a definition
@@ -43,8 +37,8 @@ unfolding definition
 definition-first [] e = refl
 definition-first (x ∷ p) e = rw (ne-eqb x 91 e)
 
-pub definition-rest : (p : List ℕ) (r : Bool) → 6 < length p → getD p 0 0 ≡ 91 → r ≡ same (take 5 (drop 1 p)) (97 ∷ 116 ∷ 116 ∷ 114 ∷ 93 ∷ []) → r ≡ definition p
-unfolding definition
+pub definition-rest : (p : List ℕ) (r : Bool) → 6 < length p → getD p 0 0 ≡ 91 → r ≡ sameBytes (take 5 (drop 1 p)) (97 ∷ 116 ∷ 116 ∷ 114 ∷ 93 ∷ []) → r ≡ definition p
+unfolding definition sameBytes
 definition-rest (a ∷ b ∷ c ∷ d ∷ e ∷ f ∷ g ∷ p) r h q t = rw (eq-eqb a 91 q, lt-ltb 6 (length (a ∷ b ∷ c ∷ d ∷ e ∷ f ∷ g ∷ p)) h) (t ∙ sym (and-true (eqb b 97 && (eqb c 116 && (eqb d 116 && (eqb e 114 && (eqb f 93 && true)))))))
 definition-rest [] r h q t = absurd (omega arith)
 definition-rest (a ∷ []) r h q t = absurd (omega arith)

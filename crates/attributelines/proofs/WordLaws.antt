@@ -9,6 +9,7 @@ use mathlib.Core.Bool.{Bool, true, false, not, cond, false≢true}
 use mathlib.Core.List.{List, [], _∷_}
 use lib.ListN.{length, take, drop, length-drop, drop-of-length-le}
 use lib.Seq.{drop-drop}
+use borrow.Author.Tests.{not-true}
 use Rattle.attributelines.specs.AttributeLines.{blank, opens, Piece, widened, pieces}
 use Rattle.attributelines.specs.Scan.{blankLength, wordLength}
 
@@ -58,11 +59,7 @@ pieces-word at b (c ∷ s) e = rw e (go (blank c) refl (pieces-word (suc at) c s
 
 opened : (at : ℕ) (d : List ℕ) → opens d ≡ true → pieces at d ≡ record { start = at; bytes = take (wordLength d) d } ∷ pieces (at + wordLength d) (drop (wordLength d) d)
 opened at [] e = absurd (false≢true e)
-opened at (b ∷ s) e = pieces-word at b s (shut (blank b) e)
-  where
-    shut : (c : Bool) → not c ≡ true → c ≡ false
-    shut true h = absurd (false≢true h)
-    shut false h = refl
+opened at (b ∷ s) e = pieces-word at b s (not-true (blank b) e)
 
 pieces-none : (at : ℕ) → pieces at [] ≡ []
 unfolding pieces

@@ -8,6 +8,7 @@ use lib.ListN.{length, take, drop}
 use Rattle.rulefiles.specs.RuleFiles.{Line}
 use Rattle.rulefiles.specs.Last.{joined}
 use Rattle.refusals.specs.Questions.{goodName}
+use Rattle.classes.specs.Names.{sameBytes}
 use Rattle.entries.specs.Entries.{Entry, firstIs, has, before, applies, patternMatches, restOf, componentOf}
 use Rattle.attributelines.specs.declared.State.{State}
 use Rattle.attributelines.specs.declared.State.the-variants.{Set, Unset, Value, Unspecified}
@@ -43,6 +44,7 @@ pieces at (b ∷ s) =
 abbrev pub nameLength : List ℕ → ℕ
 nameLength s = before (λ b. eqb b 61) s
 
+-- these bytes: `name` of `name=v`
 unfoldable pub nameIn : List ℕ → List ℕ
 nameIn s = take (nameLength s) s
 
@@ -85,16 +87,9 @@ definition p = beginsWith (91 ∷ 97 ∷ 116 ∷ 116 ∷ 114 ∷ 93 ∷ []) p &&
 unfoldable pub patternDropped : List ℕ → Bool
 patternDropped p = firstIs 35 p || (firstIs 33 p || (firstIs 34 p || definition p))
 
--- the two are the same bytes
-abbrev pub same : List ℕ → List ℕ → Bool
-same [] [] = true
-same [] (y ∷ t) = false
-same (x ∷ s) [] = false
-same (x ∷ s) (y ∷ t) = eqb x y && same s t
-
 -- the state that a mention gives an attribute, if it names it
 unfoldable pub stateFor : List ℕ → Mention → Option State
-stateFor name m = cond (same (m .name) name) (some (m .state)) none
+stateFor name m = cond (sameBytes (m .name) name) (some (m .state)) none
 
 -- "on one line, the last mention"
 abbrev pub lastMention : List ℕ → List Piece → Option State

@@ -2,13 +2,14 @@
 ghost use mathlib.Core.Path.{_≡_};
 ghost use Prim.Native.Nat.{_+_};
 ghost use lib.ListN.{drop};
-ghost use Rattle.attributelines.specs.AttributeLines.{nameLength, mention, same};
+ghost use Rattle.attributelines.specs.AttributeLines.{nameLength, mention};
+ghost use Rattle.classes.specs.Names.{sameBytes};
 use crate::Span;
 use crate::State;
 
 // Whether two names are the same bytes.
 pub fn same(a: &[u8], b: &[u8]) -> bool
-    ensures { λ r. ⌜ r ≡ same (now (a .entry)) (now (b .entry)) ⌝ }
+    ensures { λ r. ⌜ r ≡ sameBytes (now (a .entry)) (now (b .entry)) ⌝ }
 {
     if a.len() != b.len() {
         return false;

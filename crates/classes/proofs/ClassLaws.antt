@@ -1,6 +1,6 @@
 -- A whole class: its size, its sign, and the test of a byte against it.
 use mathlib.Core.Path.{_≡_, refl, sym, ap, ap₂, subst, _∙_}
-use mathlib.Core.Bool.{Bool, true, false, cond, not, _||_, Bool·beq}
+use mathlib.Core.Bool.{Bool, true, false, cond, not, _||_, Bool·beq, or-self}
 use mathlib.Core.List.{List, [], _∷_}
 use mathlib.Core.Option.{Option, none, some}
 use Prim.Native.Nat.{ℕ, suc, _+_, _-_, _≤_}
@@ -10,7 +10,6 @@ use native.Mathlib.Omega.{arith}
 use lib.Dec.{eqb}
 use lib.ListN.{length, getD, drop, length-drop}
 use borrow.Author.Tests.{eq-eqb, ne-eqb}
-use Rattle.classes.proofs.LetterLaws.{or-same}
 use Rattle.classes.proofs.MemberLaws.{from, from-drop}
 use Rattle.classes.proofs.SizeLaws.{Ends, Ended, ends-more, members-ended}
 use Rattle.classes.specs.Letters.{lower, upper, folded}
@@ -107,7 +106,7 @@ folded-forms : (fold : Bool) (ms : List Member) (x : ℕ)
     → anyLists ms (form fold (lower x) x) || anyLists ms (form fold (upper x) x) ≡ folded fold (anyLists ms) x
 unfolding form folded
 folded-forms true ms x = refl
-folded-forms false ms x = or-same (anyLists ms x)
+folded-forms false ms x = or-self (anyLists ms x)
 
 accepted-hit : (fold neg hit : Bool) (ms : List Member) (x : ℕ) → hit ≡ folded fold (anyLists ms) x → not (Bool·beq hit neg) ≡ accepted fold neg ms x
 unfolding accepted

@@ -1,15 +1,11 @@
 -- Folding case leaves `/` alone.
 use mathlib.Core.Path.{_≡_, refl, sym, ap₂, subst, _∙_}
-use mathlib.Core.Bool.{Bool, true, false, cond, _&&_, _||_, false≢true}
+use mathlib.Core.Bool.{Bool, true, false, cond, _&&_, _||_, false≢true, or-self}
 use Prim.Native.Nat.{ℕ}
 use native.Mathlib.Omega.{arith}
 use lib.Dec.{eqb, leb}
 use borrow.Author.Tests.{leb-true, eqb-true, ne-eqb}
 use Rattle.classes.specs.Letters.{lower, upper, folded}
-
-pub or-same : (b : Bool) → b || b ≡ b
-or-same true = refl
-or-same false = refl
 
 -- a byte x that is changed to y only where neither is `/`
 kept : (a b : Bool) (x y : ℕ) → (a ≡ true → (y ≡ 47 → ⊥) × (x ≡ 47 → ⊥)) → eqb (cond (a && b) y x) 47 ≡ eqb x 47
@@ -25,13 +21,13 @@ upper-slash x = kept (leb 97 x) _ x _ (λ e. let h = leb-true 97 x e in (λ q. o
 
 pub folded-slash : (fold : Bool) (x : ℕ) → folded fold (λ y. eqb y 47) x ≡ eqb x 47
 unfolding folded
-folded-slash true x = ap₂ _||_ (lower-slash x) (upper-slash x) ∙ or-same (eqb x 47)
+folded-slash true x = ap₂ _||_ (lower-slash x) (upper-slash x) ∙ or-self (eqb x 47)
 folded-slash false x = refl
 
 -- only the literal `/` accepts `/`
 slash-only : (fold : Bool) (c : ℕ) → folded fold (λ z. eqb z c) 47 ≡ true → c ≡ 47
 unfolding folded
-slash-only true c e = sym (eqb-true 47 c (sym (or-same (eqb 47 c)) ∙ e))
+slash-only true c e = sym (eqb-true 47 c (sym (or-self (eqb 47 c)) ∙ e))
 slash-only false c e = sym (eqb-true 47 c e)
 
 -- where a literal accepts a byte other than `/`, it accepts no `/`

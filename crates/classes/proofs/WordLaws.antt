@@ -105,7 +105,7 @@ name-short : (k : ℕ) → k < 12 → length (getD names k []) ≤ 7
 unfolding names
 name-short k h = leb-true _ _ (all-at 12 (λ i. leb (length (getD names i [])) 7) refl k h)
 
-same-length : (a b : List ℕ) → (length a ≡ length b → ⊥) → sameBytes a b ≡ false
+pub same-length : (a b : List ℕ) → (length a ≡ length b → ⊥) → sameBytes a b ≡ false
 unfolding sameBytes
 same-length [] [] h = absurd (h refl)
 same-length [] (y ∷ b) h = refl

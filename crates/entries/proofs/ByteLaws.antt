@@ -3,7 +3,7 @@ use Prim.Native.Nat.{ℕ, zero, suc, _+_, _-_, _<_, _≤_}
 use native.Mathlib.Omega.{arith}
 use native.Mathlib.Numerals.{add-one}
 use mathlib.Core.Path.{_≡_, refl, sym, ap, subst, _∙_}
-use mathlib.Core.Bool.{Bool, true, false, _||_, false≢true}
+use mathlib.Core.Bool.{Bool, true, false, _||_, false≢true, or-true}
 use mathlib.Core.List.{List, [], _∷_}
 use lib.Dec.{eqb}
 use lib.ListN.{length, take, drop, getD, length-drop, drop-of-length-le}
@@ -11,15 +11,11 @@ use lib.Seq.{drop-cons}
 use borrow.Author.Tests.{eq-eqb, ne-eqb, eqb-true}
 use Rattle.entries.specs.Entries.{firstIs, lastIs, has, front, lastComponent, componentStart}
 
-or-right : (a : Bool) {b : Bool} → b ≡ true → (a || b) ≡ true
-or-right true e = refl
-or-right false e = e
-
 -- a byte that is found
 pub has-at : (b : ℕ) (s : List ℕ) (i : ℕ) → i < length s → getD s i 0 ≡ b → has b s ≡ true
 has-at b [] i h e = absurd (omega arith)
 has-at b (x ∷ s) zero h e = rw (eq-eqb x b e)
-has-at b (x ∷ s) (suc i) h e = or-right (eqb x b) (has-at b s i (omega arith) e)
+has-at b (x ∷ s) (suc i) h e = rw (has-at b s i (omega arith) e) (or-true (eqb x b))
 
 -- one place on, without finding it
 pub has-next : (b : ℕ) (s : List ℕ) (i : ℕ) → i < length s → (getD s i 0 ≡ b → ⊥) → has b (drop i s) ≡ has b (drop (i + 1) s)

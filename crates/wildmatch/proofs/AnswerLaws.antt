@@ -1,11 +1,11 @@
 -- Each answer of the matcher means what specs/Answers.antt says.
 use mathlib.Core.Path.{_≡_, refl, sym, ap, subst, _∙_}
-use mathlib.Core.Logic.{_↔_}
-use mathlib.Core.Bool.{Bool, true, false, false≢true}
+use mathlib.Core.Bool.{Bool, true, false}
 use mathlib.Core.List.{List}
 use Prim.Native.Nat.{ℕ}
 use native.Mathlib.Omega.{arith}
 use Rattle.refusals.specs.Refusals.{Lowest, Accepted, MatcherRefuses}
+use Rattle.refusals.proofs.Says.{said-false}
 use Rattle.refusals.proofs.LowestLaws.{lowest-one, lowest-refuses}
 use Rattle.wildmatch.specs.Sharing.{Matches}
 use Rattle.wildmatch.specs.Test.{matchesTest}
@@ -16,10 +16,6 @@ use Rattle.wildmatch.specs.declared.answer.Answer.the-variants.{Unmatche
 
 clash : {A : Type 0} → _≡_ {A = ℕ} 0 1 → A
 clash e = absurd (omega arith)
-
--- a test is false exactly where what it decides does not hold
-pub test-false : {P : Type 0} (b : Bool) → (b ≡ true) ↔ P → b ≡ false → P → ⊥
-test-false b d e h = false≢true (sym e ∙ d .1 h)
 
 -- an answer that is the test's
 pub decides : (m : Mode) (p t : List ℕ) (b : Bool) → b ≡ matchesTest m p t → MatchDecided m p t b
@@ -44,7 +40,7 @@ module _ (p t : List ℕ) (f : ℕ) where
 
   pub answers-unmatched : (m : Mode) (b : Bool) → Accepted (MatcherRefuses p t f) → m ≡ modeOf f → MatchDecided m p t b → b ≡ false → Answered p t f Unmatched
   answers-unmatched m b a e q h =
-      let w : Matches (modeOf f) p t → ⊥ = λ k. test-false b (q .means) h (subst (λ (o : Mode). Matches o p t) (sym e) k) in
+      let w : Matches (modeOf f) p t → ⊥ = λ k. said-false (q .means) h (subst (λ (o : Mode). Matches o p t) (sym e) k) in
       record {
         refused = λ k. (λ e. clash (cc), λ h. absurd (lowest-refuses (MatcherRefuses p t f) k h a));
         matched = (λ e. clash (cc), λ h. absurd (w (h .1)));

@@ -10,10 +10,10 @@ use lib.ListN.{length, drop, getD, length-drop}
 use lib.Seq.{drop-cons, drop-drop, getD-drop}
 use borrow.Author.Tests.{eqb-true}
 use Rattle.refusals.proofs.Order.{before-or-not}
+use Rattle.refusals.proofs.Says.{or-cases}
 use Rattle.wildmatch.proofs.Parts.{from, from-drop, false-if-not, not-both, drop-on, getD-on}
 use Rattle.wildmatch.proofs.OutcomeLaws.{says-failed, says-near, run-at, at-run, far-run, matched-run}
 use Rattle.classes.proofs.TableLaws.{and-split}
-use Rattle.wildmatch.specs.Meaning.{or-either}
 use Rattle.wildmatch.specs.Test.{oneThen, runThen, tailMatches}
 use Rattle.wildmatch.specs.Outcomes.{to-slash, May, Never, Says, SaysRun, slashThen, NextSlash, FirstPlace}
 use Rattle.wildmatch.specs.declared.Mode.{Mode}
@@ -36,7 +36,7 @@ module _ (m : Mode) (here : Bool) (p t : List ℕ) where
       let s = one-at (λ x. eqb x 47) (tailMatches m true p) (drop (r .0) t) (r .3) in
       let a : r .0 + 0 ≡ r .0 + 1 - 1 = omega arith in
       (r .0 + 1, omega (arith, rw length-drop at (s .0)), inr (omega arith, ap (λ (n : ℕ). getD t n 0) (sym a) ∙ sym (getD-drop (r .0) t 0 0) ∙ eqb-true (getD (drop (r .0) t) 0 0) 47 (s .1)), rw drop-drop at (s .2)))
-      (or-either (here && tailMatches m true p t) (runThen (λ x. true) (oneThen (λ x. eqb x 47) (tailMatches m true p)) t) e)
+      (or-cases (here && tailMatches m true p t) (runThen (λ x. true) (oneThen (λ x. eqb x 47) (tailMatches m true p)) t) e)
 
   at-slash : (k : ℕ) → k ≤ length t → Spot here t k → tailMatches m true p (drop k t) ≡ true → slashThen m here p t ≡ true
   unfolding slashThen

@@ -1,6 +1,6 @@
 -- What follows from an outcome, and the outcomes of runs by the places that they can reach.
 use mathlib.Core.Path.{_≡_, refl, sym, subst, fun-ext}
-use mathlib.Core.Logic.{_⊎_, inl, ⊎-elim}
+use mathlib.Core.Logic.{inl, ⊎-elim}
 use mathlib.Core.Bool.{Bool, true, false, _&&_, or-true}
 use mathlib.Core.List.{List, [], _∷_}
 use Prim.Native.Nat.{ℕ, zero, suc, _+_, _-_, _<_, _≤_}
@@ -9,10 +9,11 @@ use lib.ListN.{length, drop, getD, length-drop}
 use lib.Seq.{drop-drop, getD-drop}
 use borrow.Author.Count.{below-more}
 use Rattle.refusals.proofs.Order.{before-or-not}
+use Rattle.refusals.proofs.Says.{or-cases}
 use Rattle.wildmatch.proofs.Parts.{from, from-drop, false-if-not, not-both, drop-on, getD-on}
 use Rattle.wildmatch.specs.Sharing.{inside}
 use Rattle.classes.proofs.TableLaws.{and-split}
-use Rattle.wildmatch.specs.Meaning.{or-either, run-here}
+use Rattle.wildmatch.specs.Meaning.{run-here}
 use Rattle.wildmatch.specs.Test.{runThen, tailMatches, matchesTest}
 use Rattle.wildmatch.specs.Outcomes.{Skip, nothing, near, to-slash, anything, May, Never, Says, SaysRun, nearThen, Passed, Skipped}
 use Rattle.wildmatch.specs.declared.Mode.{Mode}
@@ -70,7 +71,7 @@ run-at a f [] e = (0, omega arith, λ j l. absurd (omega arith), e)
 run-at a f (x ∷ t) e =
     ⊎-elim (λ h. (0, omega arith, λ j l. absurd (omega arith), h))
     (λ h. let s = and-split (a x) (runThen a f t) h in let r = run-at a f t (s .1) in (suc (r .0), omega (arith, r .1), on (s .0) (r .0) (r .2), r .3))
-    (or-either (f (x ∷ t)) (a x && runThen a f t) e)
+    (or-cases (f (x ∷ t)) (a x && runThen a f t) e)
   where
     on : a x ≡ true → (k : ℕ) → ((j : ℕ) → j < k → a (getD t j 0) ≡ true) → (j : ℕ) → j < suc k → a (getD (x ∷ t) j 0) ≡ true
     on h k g zero l = h

@@ -1,21 +1,18 @@
 -- The test of specs/Test.antt says true exactly where the pattern matches as specs/Sharing.antt has it.
 use Prim.Native.Nat.{ℕ}
 use mathlib.Core.Path.{_≡_, refl, sym, ap, subst}
-use mathlib.Core.Logic.{_⊎_, inl, inr, ⊎-elim, _↔_}
-use mathlib.Core.Bool.{Bool, true, false, _&&_, _||_, false≢true, or-true}
+use mathlib.Core.Logic.{⊎-elim, _↔_}
+use mathlib.Core.Bool.{Bool, true, _&&_, _||_, false≢true, or-true}
 use mathlib.Core.List.{List, [], _∷_, _++_}
 use mathlib.Core.Option.{Option, none, some}
 use lib.Dec.{eqb}
 use borrow.Author.Tests.{eqb-true}
+use Rattle.refusals.proofs.Says.{or-cases}
 use Rattle.classes.proofs.TableLaws.{and-split}
 use Rattle.wildmatch.specs.Patterns.{within, crossing, crossing-slash, Item, literal, any-byte, one-of, run, items}
 use Rattle.wildmatch.specs.Sharing.{accepts, Each, TakesOne, Takes, Shares, none-left, shared, vanished, Matches}
 use Rattle.wildmatch.specs.Test.{oneThen, runThen, passes, itemThen, vanish, isEmpty, sharesTest, sharesOf, tailMatches, matchesTest}
 use Rattle.wildmatch.specs.declared.Mode.{Mode}
-
-pub or-either : (a b : Bool) → (a || b) ≡ true → (a ≡ true) ⊎ (b ≡ true)
-or-either true b e = inl refl
-or-either false b e = inr e
 
 or-both : (a b c : Bool) → b ≡ true → c ≡ true → (a || b && c) ≡ true
 or-both a b c p q = rw (p, q) (or-true a)
@@ -38,7 +35,7 @@ run-sound a f (x ∷ t) e =
     ⊎-elim (λ h. ([], x ∷ t, refl, tt, h))
     (λ h. let s = and-split (a x) (runThen a f t) h in let r = run-sound a f t (s .1) in
     (x ∷ r .0, r .1, ap {B = List ℕ} (λ l. x ∷ l) (r .2), (s .0, r .3), r .4))
-    (or-either (f (x ∷ t)) (a x && runThen a f t) e)
+    (or-cases (f (x ∷ t)) (a x && runThen a f t) e)
 
 pub run-here : (a : ℕ → Bool) (f : List ℕ → Bool) (t : List ℕ) → f t ≡ true → runThen a f t ≡ true
 run-here a f [] q = q
@@ -92,7 +89,7 @@ module _ (m : Mode) where
   sound (it ∷ jt ∷ its) t e =
       ⊎-elim (λ h. let s = item-sound it (sharesTest m (jt ∷ its)) t h in shared (s .0) (s .1) (s .2) (s .3) (sound (jt ∷ its) (s .1) (s .4)))
       (λ h. let s = and-split (vanish m it jt) (sharesTest m its t) h in vanish-sound it jt its t (s .0) (sound its t (s .1)))
-      (or-either (itemThen m it (sharesTest m (jt ∷ its)) t) (vanish m it jt && sharesTest m its t) e)
+      (or-cases (itemThen m it (sharesTest m (jt ∷ its)) t) (vanish m it jt && sharesTest m its t) e)
 
   item-more : (it : Item) (its : List Item) (w u : List ℕ) → Takes m it w → sharesTest m its u ≡ true → sharesTest m (it ∷ its) (w ++ u) ≡ true
   item-more it [] w u h q = item-join it isEmpty w u h q

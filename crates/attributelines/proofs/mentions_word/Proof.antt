@@ -9,7 +9,7 @@ use denote.Ref.{now}
 use lib.ListN.{length, drop}
 use lib.Seq.{length-take-le}
 use Rattle.entries.proofs.BeforeLaws.{before-past, before-within}
-use Rattle.attributelines.specs.AttributeLines.{blank, same, pieces, stateOf}
+use Rattle.attributelines.specs.AttributeLines.{blank, pieces, stateOf}
 use Rattle.attributelines.specs.Scan.{blankLength, wordLength, mentionsState}
 use Rattle.attributelines.proofs.WordLaws.{pieces-end, word-long}
 use Rattle.attributelines.proofs.LineLaws.{pending, pending-begin, pending-end, turn-bad, turn-said, turn-other}

@@ -5,19 +5,20 @@ use mathlib.Core.Path.{_≡_, refl, sym, _∙_}
 use borrow.Author.Needs.{needs}
 use denote.Ref.{now}
 use lib.ListN.{length, drop}
-use Rattle.attributelines.specs.AttributeLines.{same}
-use Rattle.attributelines.proofs.MentionLaws.{same-length, same-next, same-differs, same-end}
+use Rattle.classes.specs.Names.{sameBytes}
+use Rattle.classes.proofs.WordLaws.{same-length}
+use Rattle.attributelines.proofs.MentionLaws.{same-next, same-differs, same-end}
 use Rattle.attributelines.proofs.mention.same.Statement.{statement}
 use Rattle.attributelines.proofs.mention.same.Tie as tie
 
 abbrev Inv-loop : tie.InvT-loop
-Inv-loop a b i₀ i = (i ≤ length a) × (length a ≡ length b) × (same a b ≡ same (drop i a) (drop i b))
+Inv-loop a b i₀ i = (i ≤ length a) × (length a ≡ length b) × (sameBytes a b ≡ sameBytes (drop i a) (drop i b))
 
 abbrev μ-loop : tie.MeasureT-loop
 μ-loop a b i₀ i = length a - i
 
 returns : tie.Need-returns Inv-loop μ-loop
-returns c = same-length (now (c .before .args .a)) (now (c .before .args .b)) (c .if1 .taken)
+returns c = sym (same-length (now (c .before .args .a)) (now (c .before .args .b)) (c .if1 .taken))
 
 loop-holds : tie.Need-loop-holds Inv-loop μ-loop
 loop-holds c = (search needs, c .if1 .left, refl)
