@@ -80,7 +80,7 @@ pub fn name_has(k: usize, x: u8) -> bool
 
 // A byte as a number.
 fn wide(x: u8) -> u64
-    ensures { λ r. ⌜ r ≡ x ⌝ }
+    ensures { λ r. ⌜ (r ≡ x) × (r < 256) ⌝ }
 {
     x as u64
 }

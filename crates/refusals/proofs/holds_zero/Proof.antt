@@ -1,78 +1,59 @@
+-- `refusals::holds_zero` meets its contract: the parts that are looked at cover all bytes.
 use Rattle.refusals.proofs.ZeroLaws.{zero-whole, zero-first, zero-second}
 use mathlib.Core.Path.{refl}
 use native.Mathlib.Omega.{arith}
 use borrow.Author.Needs.{needs}
 use Rattle.refusals.proofs.holds_zero.Statement.{statement}
 use Rattle.refusals.proofs.holds_zero.Tie as tie
-use Rattle.refusals.proofs.holds_zero.Reads as reads
-use Rattle.refusals.proofs.holds_zero.Lts as lts
-use Rattle.refusals.proofs.zero_in.Reads as zero-in-reads
 
--- src/lib.rt:47:9
 zero-in-requires : tie.Need-zero-in-requires
 zero-in-requires c κs = search needs
 
--- src/lib.rt:47:9
 returns : tie.Need-returns
 returns c = zero-whole _ _ _ refl (c .zero-in .ensures)
 
--- src/lib.rt:50:16
 zero-in-requires-2 : tie.Need-zero-in-requires-2
 zero-in-requires-2 c κs = search needs
 
--- src/lib.rt:50:40
 zero-in-requires-3 : tie.Need-zero-in-requires-3
 zero-in-requires-3 c κs = search needs
 
--- src/lib.rt:50:9
 returns-2 : tie.Need-returns-2
 returns-2 c = zero-first _ _ 4 (omega arith) (c .before .zero-in2 .ensures) (c .if3 .taken)
 
--- src/lib.rt:50:9
 returns-3 : tie.Need-returns-3
 returns-3 c = zero-second _ _ _ 4 _ refl (omega arith) (omega arith) (c .before .before .zero-in2 .ensures) (c .before .if3 .left) (c .zero-in3 .ensures)
 
--- src/lib.rt:53:16
 zero-in-requires-4 : tie.Need-zero-in-requires-4
 zero-in-requires-4 c κs = search needs
 
--- src/lib.rt:53:40
 zero-in-requires-5 : tie.Need-zero-in-requires-5
 zero-in-requires-5 c κs = search needs
 
--- src/lib.rt:53:9
 returns-4 : tie.Need-returns-4
 returns-4 c = zero-first _ _ 8 (omega arith) (c .before .zero-in4 .ensures) (c .if5 .taken)
 
--- src/lib.rt:53:9
 returns-5 : tie.Need-returns-5
 returns-5 c = zero-second _ _ _ 8 _ refl (omega arith) (omega arith) (c .before .before .zero-in4 .ensures) (c .before .if5 .left) (c .zero-in5 .ensures)
 
--- src/lib.rt:56:16
 zero-in-requires-6 : tie.Need-zero-in-requires-6
 zero-in-requires-6 c κs = search needs
 
--- src/lib.rt:56:56
 sub-zero-in : tie.Need-sub-zero-in
 sub-zero-in c = search needs
 
--- src/lib.rt:56:41
 zero-in-requires-7 : tie.Need-zero-in-requires-7
 zero-in-requires-7 c κs = search needs
 
--- src/lib.rt:56:9
 returns-6 : tie.Need-returns-6
 returns-6 c = zero-first _ _ 16 (omega arith) (c .before .zero-in6 .ensures) (c .if7 .taken)
 
--- src/lib.rt:56:9
 returns-7 : tie.Need-returns-7
 returns-7 c = zero-second _ _ _ 16 _ refl (omega arith) (omega arith) (c .before .before .zero-in6 .ensures) (c .before .if7 .left) (c .zero-in7 .ensures)
 
--- src/lib.rt:58:5
 zero-in-requires-8 : tie.Need-zero-in-requires-8
 zero-in-requires-8 c κs = search needs
 
--- src/lib.rt:42:1
 returns-8 : tie.Need-returns-8
 returns-8 c = zero-whole _ _ _ refl (c .zero-in8 .ensures)
 

@@ -1,11 +1,10 @@
+-- `refusals::zero_in` meets its contract: byte 0 was found among the j bytes passed, or not.
 use Rattle.refusals.proofs.ZeroLaws.{Seen, seen-begin, seen-zero, seen-other, seen-end}
 use mathlib.Core.Logic.{⊎-elim}
 use Prim.Native.Nat.{_+_, _-_, _≤_}
 use native.Mathlib.Omega.{arith}
 use Rattle.refusals.proofs.zero_in.Statement.{statement}
 use Rattle.refusals.proofs.zero_in.Tie as tie
-use Rattle.refusals.proofs.zero_in.Reads as reads
-use Rattle.refusals.proofs.zero_in.Lts as lts
 
 abbrev Inv-loop : tie.InvT-loop
 Inv-loop bytes i n found₀ j₀ found j = (j ≤ n) × Seen bytes found i (i + j)
@@ -13,31 +12,24 @@ Inv-loop bytes i n found₀ j₀ found j = (j ≤ n) × Seen bytes found i (i + 
 abbrev μ-loop : tie.MeasureT-loop
 μ-loop bytes i n found₀ j₀ found j = n - j
 
--- src/lib.rt:32:5
 loop-holds : tie.Need-loop-holds Inv-loop μ-loop
 loop-holds c = (omega arith, seen-begin _ _)
 
--- src/lib.rt:33:18
 add-if1 : tie.Need-add-if1 Inv-loop μ-loop
 add-if1 c = omega arith
 
--- src/lib.rt:33:12
 shared-slice-read-if1 : tie.Need-shared-slice-read-if1 Inv-loop μ-loop
 shared-slice-read-if1 c = omega arith
 
--- src/lib.rt:36:9
 add-j : tie.Need-add-j Inv-loop μ-loop
 add-j c = omega arith
 
--- src/lib.rt:32:5
 loop-less : tie.Need-loop-less Inv-loop μ-loop
 loop-less c = omega arith
 
--- src/lib.rt:32:5
 loop-again : tie.Need-loop-again Inv-loop μ-loop
 loop-again c = (omega arith, ⊎-elim (λ w. seen-zero _ _ _ _ (w .0 .taken) (w .1)) (λ w. seen-other _ _ _ _ _ (w .0 .left) (c .before .before .before .loop .inv .1) (w .1)) (c .if1 .came))
 
--- src/lib.rt:26:1
 returns : tie.Need-returns Inv-loop μ-loop
 returns c = seen-end _ _ _ _ _ (c .before .loop .inv .1) (c .before .loop .inv .0) (c .loop-test .left)
 

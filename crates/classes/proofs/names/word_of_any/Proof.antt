@@ -40,7 +40,7 @@ add-word : tie.Need-add-word Inv-loop μ-loop
 add-word c =
     let h = word-fits (c .before .before .before .before .before .before .args .name .now) (c .before .before .before .loop .i) _ (c .before .before .loop-test .taken) (c .before .before .before .loop .inv .0) (c .before .before .before .loop .inv .1)
     (λ i. c .before .before .before .before .before .shared-slice-known .given i .fits)
-    (c .before .before .before .before .if1 .left) in omega (arith, c .wide .ensures)
+    (c .before .before .before .before .if1 .left) in omega arith
 
 loop-less : tie.Need-loop-less Inv-loop μ-loop
 loop-less c = search needs
@@ -48,7 +48,7 @@ loop-less c = search needs
 loop-again : tie.Need-loop-again Inv-loop μ-loop
 loop-again c = (
   omega arith,
-  ap (λ (n : ℕ). c .before .before .before .loop .word * 256 + n) (c .wide .ensures)
+  ap (λ (n : ℕ). c .before .before .before .loop .word * 256 + n) (c .wide .ensures .0)
       ∙ word-more _ _ _ (c .before .before .loop-test .taken) (c .before .before .before .loop .inv .0) (c .before .before .before .loop .inv .1),
 )
 
