@@ -29,7 +29,7 @@ pub enum State {
     Unspecified,
 }
 
-// A line's word.
+// What a line says of an attribute.
 pub enum Word {
     Silent,
     Says(State),

@@ -5,6 +5,7 @@ ghost use lib.ListN.{drop};
 ghost use Rattle.attributelines.specs.AttributeLines.{blank};
 ghost use Rattle.attributelines.specs.Scan.{blankLength, wordLength};
 
+// Whether a byte is a space, a tab or a CR.
 fn is_blank(b: u8) -> bool
     ensures { λ r. ⌜ r ≡ blank b ⌝ }
 {

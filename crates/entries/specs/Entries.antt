@@ -1,12 +1,11 @@
 -- Document 01, "Ignore lines": an entry, and when the pattern of a line matches it. Attribute lines: "Patterns match as for ignore lines".
 use Prim.Native.Nat.{ℕ, suc, _-_}
-use mathlib.Core.Bool.{Bool, true, false, not, cond, _&&_, _||_}
+use mathlib.Core.Bool.{Bool, false, not, cond, _&&_, _||_}
 use mathlib.Core.List.{List, [], _∷_}
 use lib.Dec.{eqb, ltb}
 use lib.ListN.{length, drop}
 use Rattle.wildmatch.specs.Test.{matchesTest}
 pub use Rattle.wildmatch.specs.Test.{isEmpty}
-use Rattle.wildmatch.specs.declared.Mode.{Mode}
 
 -- "An entry is the path or one of its parent directories", with whether it is a directory
 pub record Entry : Type 0 where

@@ -22,7 +22,7 @@ fn has_slash(pattern: &[u8]) -> bool
     false
 }
 
-// A pattern whose last `/` has gone.
+// Whether a pattern whose last `/` has gone matches: one with a `/` the rest, in path mode; any other the component.
 fn bare_matches(pattern: &[u8], rest: &[u8], component: &[u8], fold: bool) -> bool
     ensures { λ r. ⌜ r ≡ bareMatches fold (now (rest .entry)) (now (component .entry)) (now (pattern .entry)) ⌝ }
 {

@@ -1,2 +1,2 @@
--- Laws that callers use.
+-- Laws that the proofs of several functions use.
 pub mod LineLaws

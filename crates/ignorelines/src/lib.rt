@@ -5,7 +5,7 @@ ghost use Rattle.ignorelines.specs.IgnoreLines.{withoutCr, kept, ruleWor
 ghost use Rattle.ignorelines.specs.Scan.{escapesNext, keptAfter};
 use entries::pattern_matches;
 
-// A line's word.
+// What a line says of an entry.
 pub enum Word {
     Silent,
     Ignores,

@@ -20,6 +20,7 @@ overwritten chosen number (b ∷ s) = cond (eqb b 10) (b ∷ overwritten chosen 
 unfoldable pub blankedFile : (ℕ → Bool) → List ℕ → List ℕ
 blankedFile chosen bytes = cond (isEmpty (drop (bomLength bytes) bytes)) bytes (overwritten chosen 1 bytes)
 
+-- of one file after the other
 abbrev pub blankedFiles : Choice → List File → List ℕ
 blankedFiles chosen [] = []
 blankedFiles chosen (f ∷ fs) = blankedFile (chosen (f .number)) (f .bytes) ++ blankedFiles chosen fs

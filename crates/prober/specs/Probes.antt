@@ -10,7 +10,6 @@ use Rattle.attributelines.specs.declared.State.{State}
 use Rattle.attributelines.specs.declared.State.the-variants.{Set, Unset, Value, Unspecified}
 use Rattle.rulefiles.specs.declared.Place.{Place}
 use Rattle.questions.specs.Answers.{IgnoreAnswered, AttributeAnswered, ignoreCode, attributeCode}
-use Rattle.questions.specs.declared.Decided.{Decided}
 use Rattle.questions.specs.declared.IgnoreAnswer.{IgnoreAnswer}
 use Rattle.questions.specs.declared.IgnoreAnswer.the-variants.{Nothing, Ignored, Reincluded, Refused}
 use Rattle.questions.specs.declared.AttributeAnswer.{AttributeAnswer}
@@ -20,6 +19,7 @@ use Rattle.questions.specs.declared.AttributeAnswer.the-variants.{Nothing as Un
 unfoldable pub put : List ℕ → List ℕ → List ℕ
 put numbers held = cond (leb (length numbers) (length held)) (numbers ++ drop (length numbers) held) held
 
+-- the file and the line
 abbrev pub placeNumbers : Place → List ℕ
 placeNumbers p = p .file ∷ p .line ∷ []
 
@@ -37,10 +37,11 @@ valueSpan Unset = record { start = 0; length = 0 }
 valueSpan (Value v) = v
 valueSpan Unspecified = record { start = 0; length = 0 }
 
+-- the value's start and length, the file and the line
 abbrev pub spokenNumbers : Span → Place → List ℕ
 spokenNumbers v p = v .start ∷ v .length ∷ placeNumbers p
 
--- the value's start and length, the file and the line, where something is said
+-- these, where something is said
 unfoldable pub attributeNumbers : AttributeAnswer → List ℕ
 attributeNumbers Unsaid = []
 attributeNumbers (Said s) = spokenNumbers (valueSpan (s .state)) (s .place)

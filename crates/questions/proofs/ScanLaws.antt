@@ -9,7 +9,7 @@ use mathlib.Core.Option.{Option}
 use lib.ListN.{length, take, drop, length-drop, drop-of-length-le}
 use lib.Seq.{drop-drop, length-take-le, take-all}
 use Rattle.rulefiles.specs.RuleFiles.{split, lineLength, hasBom, bomLength}
-use Rattle.rulefiles.specs.Last.{Decision, said, joined}
+use Rattle.rulefiles.specs.Last.{Decision, joined}
 use Rattle.rulefiles.proofs.LineLaws.{split-none, split-first, line-fits}
 use Rattle.rulefiles.proofs.LastLaws.{joined-assoc}
 use Rattle.questions.specs.Scan.{saidAt, lastIn, contentStart, lastInFile}

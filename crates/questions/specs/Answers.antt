@@ -19,10 +19,11 @@ use Rattle.questions.specs.declared.IgnoreAnswer.the-variants.{Nothing, 
 use Rattle.questions.specs.declared.AttributeAnswer.{AttributeAnswer}
 use Rattle.questions.specs.declared.AttributeAnswer.the-variants.{Nothing as NoLineSpoke, Said, Refused as AttributeRefused}
 
--- "for the questions 1 = directory, 2 = fold case": the path as an entry, and whether case is folded
+-- "for the questions 1 = directory": the path as an entry
 unfoldable pub pathEntry : List ℕ → ℕ → Entry
 pathEntry path flags = record { bytes = path; directory = hasFlag flags 1 }
 
+-- "2 = fold case"
 unfoldable pub folds : ℕ → Bool
 folds flags = hasFlag flags 2
 
@@ -47,6 +48,7 @@ pub record IgnoreAnswered (path rules ends bases : List ℕ) (flags : ℕ) (answ
   pub refused : (n : ℕ) → (answer ≡ Refused n) ↔ Lowest (IgnoreRefuses path rules ends bases flags) n
   pub accepted : Accepted (IgnoreRefuses path rules ends bases flags) → answer ≡ ignoreAnswer path rules ends bases flags
 
+-- the same of the attribute question
 pub record AttributeAnswered (path rules ends bases name : List ℕ) (flags : ℕ) (answer : AttributeAnswer) : Type 0 where
   pub refused : (n : ℕ) → (answer ≡ AttributeRefused n) ↔ Lowest (AttributeRefuses path rules ends bases name flags) n
   pub accepted : Accepted (AttributeRefuses path rules ends bases name flags) → answer ≡ attributeAnswer path rules ends bases name flags

@@ -55,11 +55,12 @@ contentStart upto start = start + bomLength (drop start upto)
 unfoldable pub lastInFile : {A : Type 0} → (ℕ → List ℕ → Option A) → ℕ → List ℕ → ℕ → Option (Decision A)
 lastInFile word file upto start = lastIn word file 1 (contentStart upto start) (split (drop (contentStart upto start) upto))
 
--- what an ignored entry of n bytes answers; nothing where it is not ignored
+-- the answer where this verdict is "ignored"; else none
 abbrev pub ignoredBy : Verdict → Decided → Option Decided
 ignoredBy ignored d = some d
 ignoredBy re-included d = none
 
+-- the same by what is decided of an entry of n bytes
 abbrev pub ignoredAt : ℕ → Option (Decision Verdict) → Option Decided
 ignoredAt n none = none
 ignoredAt n (some d) = ignoredBy (d .what) (record { length = n; place = d .place })

@@ -1,6 +1,5 @@
 // The ignore question: the path's parents from the top down, then the path itself.
 ghost use mathlib.Core.Path.{_≡_};
-ghost use lib.ListN.{length};
 ghost use Rattle.rulefiles.specs.RuleFiles.{orderedLines};
 ghost use Rattle.questions.specs.Verdicts.{verdict, parents, judged, topDown};
 ghost use Rattle.questions.specs.Answers.{IgnoreAnswered, ignoreCode};

@@ -1,7 +1,5 @@
 // An entry's verdict: the last applicable line that matches it.
 ghost use mathlib.Core.Path.{_≡_};
-ghost use Prim.Native.Nat.{_≤_};
-ghost use lib.ListN.{length};
 ghost use Rattle.rulefiles.specs.RuleFiles.{orderedLines};
 ghost use Rattle.rulefiles.specs.Last.{joined};
 ghost use Rattle.ignorelines.specs.IgnoreLines.{verdictOf};

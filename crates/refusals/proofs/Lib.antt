@@ -1,10 +1,10 @@
--- Laws that callers use.
+-- Laws that the crates above cite too.
 pub mod Order
 pub mod Says
-pub mod ZeroLaws
+pub mod ScanLaws
 pub mod LowestLaws
 -- Laws that only this crate's proofs use.
-pub mod ScanLaws
+pub mod ZeroLaws
 pub mod ComponentLaws
 pub mod ListLaws
 pub mod LongLaws

@@ -1,5 +1,5 @@
 -- Document 01, "When a question is turned away": the conditions of refusals 1 to 6, each in the table's words, and which of them each question has.
-use Prim.Native.Nat.{ℕ, suc, _-_, _<_, _≤_}
+use Prim.Native.Nat.{ℕ, suc, _-_, _<_}
 use mathlib.Core.Path.{_≡_}
 use mathlib.Core.Logic.{_⊎_}
 use mathlib.Core.Bool.{Bool, true, false, not, _||_, _&&_}

@@ -1,5 +1,4 @@
--- Laws that callers use.
+-- Laws that the crates above cite too.
 pub mod LineLaws
 pub mod LastLaws
--- Laws that only this crate's proofs use.
 pub mod PartLaws

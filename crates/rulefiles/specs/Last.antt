@@ -1,12 +1,11 @@
 -- Document 01: what a line says, and the last line that speaks, for both questions.
-use Prim.Native.Nat.{ℕ}
 use mathlib.Core.Path.{_≡_}
 use mathlib.Core.List.{List, [], _∷_, _++_}
 use mathlib.Core.Option.{Option, none, some}
 use Rattle.rulefiles.specs.declared.Place.{Place}
 use Rattle.rulefiles.specs.RuleFiles.{Line}
 
--- what was decided, and "The file and line that decided"
+-- what was decided, and, as demand 2 asks, "The file and line that decided"
 pub record Decision (A : Type 0) : Type 0 where
   pub what : A
   pub place : Place
@@ -20,7 +19,7 @@ abbrev pub said : {A : Type 0} → Line → Option A → Option (Decision A)
 said l none = none
 said l (some a) = some (record { what = a; place = placeOf l })
 
--- the later answer "if that says anything, else the earlier"
+-- demand 3: the later answer "if that says anything, else the earlier"
 abbrev pub joined : {A : Type 0} → Option A → Option A → Option A
 joined earlier none = earlier
 joined earlier (some a) = some a

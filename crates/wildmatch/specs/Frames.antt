@@ -43,6 +43,7 @@ said (frame t p a b c d) m = cond (m .path) (cond (m .fold) b a) (cond (m .fold)
 abbrev pub Holds : Frame → Type 0
 Holds (frame t p a b c d) = (m : Mode) → (said (frame t p a b c d) m ≡ true) ↔ Matches m p t
 
+-- each of them does
 abbrev pub AllHold : List Frame → Type 0
 AllHold [] = Unit {0}
 AllHold (f ∷ fs) = Holds f × AllHold fs

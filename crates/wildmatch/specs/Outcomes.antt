@@ -27,6 +27,7 @@ unfoldable pub takenBy : Mode → ℕ → First → ℕ
 takenBy m x broken = 0
 takenBy m x (item it n) = cond (accepts m it x) n 0
 
+-- the same, of a pattern
 unfoldable pub taken : Mode → List ℕ → ℕ → ℕ
 taken m [] x = 0
 taken m (y ∷ p) x = takenBy m x (readItem false y p)
@@ -43,6 +44,7 @@ pub data Skip : Type 0 where
   to-slash : Skip
   anything : Skip
 
+-- place k is one of these
 abbrev pub May : Mode → Skip → List ℕ → ℕ → Type 0
 May m nothing t k = k ≡ 0
 May m near t k = (j : ℕ) → j < k → inside m (getD t j 0) ≡ true

@@ -24,6 +24,7 @@ passes m within x = inside m x
 passes m crossing x = true
 passes m crossing-slash x = true
 
+-- what an item may take, and then what `rest` takes
 abbrev pub itemThen : Mode → Item → (List ℕ → Bool) → List ℕ → Bool
 itemThen m (literal c) rest t = oneThen (accepts m (literal c)) rest t
 itemThen m any-byte rest t = oneThen (accepts m any-byte) rest t
@@ -42,6 +43,7 @@ vanish m (literal c) it = false
 vanish m any-byte it = false
 vanish m (one-of c) it = false
 
+-- there are no bytes
 abbrev pub isEmpty : List ℕ → Bool
 isEmpty [] = true
 isEmpty (x ∷ t) = false
@@ -52,6 +54,7 @@ sharesTest m [] t = isEmpty t
 sharesTest m (it ∷ []) t = itemThen m it isEmpty t
 sharesTest m (it ∷ jt ∷ its) t = itemThen m it (sharesTest m (jt ∷ its)) t || vanish m it jt && sharesTest m its t
 
+-- the same of the items that were read; "A broken pattern matches nothing."
 abbrev pub sharesOf : Mode → Option (List Item) → List ℕ → Bool
 sharesOf m none t = false
 sharesOf m (some its) t = sharesTest m its t

@@ -1,7 +1,7 @@
 // The item matcher and the run matcher, which call each other.
 ghost use mathlib.Core.Path.{_≡_};
-ghost use mathlib.Core.Bool.{true, false};
-ghost use Prim.Native.Nat.{_+_, _-_, _<_, _≤_};
+ghost use mathlib.Core.Bool.{true};
+ghost use Prim.Native.Nat.{_≤_};
 ghost use lib.ListN.{length};
 ghost use Rattle.wildmatch.specs.Test.{tailMatches};
 ghost use Rattle.wildmatch.specs.Outcomes.{afterAt, Says, SaysRun, slashThen, NextSlash, FirstPlace};

@@ -1,5 +1,5 @@
 -- `entries::component_start` meets its contract: no `/` stands from the place that is looked at on.
-use Prim.Native.Nat.{_≤_, _-_}
+use Prim.Native.Nat.{_≤_}
 use native.Mathlib.Omega.{arith}
 use mathlib.Core.Path.{_≡_, sym}
 use mathlib.Core.Bool.{false}

@@ -1,7 +1,6 @@
 -- `entries::has_slash` meets its contract: no `/` stands before the place that is looked at.
 use denote.Ref.{now}
 use Prim.Native.Nat.{_-_, _≤_}
-use native.Mathlib.Omega.{arith}
 use mathlib.Core.Path.{_≡_, sym, _∙_}
 use borrow.Author.Needs.{needs}
 use lib.ListN.{length, drop}

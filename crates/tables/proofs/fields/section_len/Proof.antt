@@ -1,6 +1,6 @@
 -- The place falls from the end of the first field, and stays within the row.
 use lib.ListN.{length}
-use Prim.Native.Nat.{_≤_, _-_}
+use Prim.Native.Nat.{_≤_}
 use borrow.Author.Needs.{needs}
 use Rattle.tables.proofs.fields.section_len.Statement.{statement}
 use Rattle.tables.proofs.fields.section_len.Tie as tie
