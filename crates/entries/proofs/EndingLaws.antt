@@ -1,18 +1,21 @@
--- The quick test of last bytes excludes only what does not match.
+-- The quick tests of last and first bytes exclude only what does not match.
 use Prim.Native.Nat.{ℕ, zero, suc, _-_}
 use native.Mathlib.Omega.{arith}
-use mathlib.Core.Path.{_≡_, refl, sym, ap, _∙_}
+use mathlib.Core.Path.{_≡_, refl, sym, ap, subst, _∙_}
 use mathlib.Core.Bool.{Bool, true, false, cond, not, _&&_, false≢true}
 use mathlib.Core.List.{List, [], _∷_}
 use lib.Dec.{eqb}
-use lib.ListN.{length, getD}
-use borrow.Author.Tests.{eqb-false, not-true}
+use lib.ListN.{length, getD, take}
+use borrow.Author.Tests.{eqb-false, ne-eqb, not-true}
 use Rattle.classes.specs.Letters.{folded}
 use Rattle.wildmatch.proofs.EndLaws.{Plain, EndsIn, EndTaken, ends-tail, end-taken}
+use Rattle.wildmatch.proofs.FrontLaws.{FirstTaken, first-taken}
 use Rattle.wildmatch.proofs.Parts.{false-if-not, not-both}
+use Rattle.wildmatch.specs.Outcomes.{isLiteral}
+use Rattle.wildmatch.specs.declared.Mode.{Mode}
 use Rattle.wildmatch.specs.Test.{matchesTest}
 use Rattle.entries.specs.Entries.{has, isEmpty, bareMatches}
-use Rattle.entries.specs.Ending.{endTaken, Excludes}
+use Rattle.entries.specs.Ending.{endTaken, Excludes, Differs}
 
 -- The text's last byte.
 
@@ -100,3 +103,32 @@ module _ (fold : Bool) (rest component : List ℕ) where
       pub excludes-two : (p : List ℕ) → (length p ≡ 0 → ⊥) → (length p ≡ 1 → ⊥) → getD p (length p - 1) 0 ≡ c → Excludes fold rest component p (not (eqb (getD p (length p - 2) 0) 92))
       unfolding Excludes
       excludes-two p l o e w = excluded p (ends-two c p l o (eqb-false _ _ (not-true _ w)) e)
+
+-- The first bytes.
+
+is-literal : (c : ℕ) → (c ≡ 42 → ⊥) → (c ≡ 63 → ⊥) → (c ≡ 91 → ⊥) → not (eqb c 92) ≡ true → isLiteral c ≡ true
+unfolding isLiteral
+is-literal c a b d e = rw (ne-eqb c 42 a, ne-eqb c 63 b, ne-eqb c 91 d) e
+
+begins : (fold : Bool) (c : ℕ) (t : List ℕ) → FirstTaken fold c t → endTaken fold c (take 1 t) ≡ true
+unfolding endTaken
+begins fold c [] h = absurd h
+begins fold c (x ∷ t) h = h
+
+module _ (fold : Bool) (t : List ℕ) where
+  pub differs-none : (p : List ℕ) → Differs fold p t false
+  unfolding Differs
+  differs-none p e = absurd (false≢true e)
+
+  pub differs-first : (p : List ℕ) (c : ℕ) (r : Bool) → (length p ≡ 0 → ⊥) → getD p 0 0 ≡ c → endTaken fold c (take 1 t) ≡ false → (c ≡ 42 → ⊥) → (c ≡ 63 → ⊥) → (c ≡ 91 → ⊥)
+      → r ≡ not (eqb c 92) → Differs fold p t r
+  unfolding Differs
+  differs-first [] c r l e n a b d q h path = absurd (l refl)
+  differs-first (x ∷ p) c r l e n a b d q h path =
+      let z : isLiteral x ≡ true = is-literal x (λ i. a (sym e ∙ i)) (λ i. b (sym e ∙ i)) (λ i. d (sym e ∙ i)) (ap (λ (k : ℕ). not (eqb k 92)) e ∙ sym q ∙ h) in
+      false-if-not _ (λ w. not-both (begins fold c t (subst (λ (k : ℕ). FirstTaken fold k t) e (first-taken (record { path = path; fold = fold }) x p t z w))) n)
+
+-- and a pattern that is asked about anyhow
+pub text-differs : (m : Mode) (p t : List ℕ) (r : Bool) → Differs (m .fold) p t r → r ≡ true → false ≡ matchesTest m p t
+unfolding Differs
+text-differs m p t r h e = sym (h e (m .path))

@@ -5,7 +5,7 @@ use classes::letters::to_lower;
 use classes::letters::to_upper;
 
 // Whether the text ends in a byte that the literal c accepts.
-fn ends_in(c: u8, text: &[u8], fold: bool) -> bool
+pub fn ends_in(c: u8, text: &[u8], fold: bool) -> bool
     ensures { λ r. ⌜ r ≡ endTaken fold c (now (text .entry)) ⌝ }
 {
     let n = text.len();

@@ -1,10 +1,13 @@
 // How the pattern of a line is matched against an entry.
 ghost use mathlib.Core.Path.{_≡_};
+ghost use Rattle.wildmatch.specs.Test.{matchesTest};
 ghost use Rattle.entries.specs.Entries.{has, bareMatches, patternMatches, componentStart};
 
 mod ending;
+mod front;
 
 use ending::cannot_match;
+use front::cannot_begin;
 use wildmatch::Mode;
 use wildmatch::answer::matches;
 
@@ -20,6 +23,16 @@ fn has_slash(pattern: &[u8]) -> bool
         i += 1;
     }
     false
+}
+
+// Whether the pattern matches the text; the matcher is asked only if the first bytes allow it.
+fn text_matches(pattern: &[u8], text: &[u8], mode: Mode) -> bool
+    ensures { λ r. ⌜ r ≡ matchesTest mode (now (pattern .entry)) (now (text .entry)) ⌝ }
+{
+    if cannot_begin(pattern, text, mode.fold) {
+        return false;
+    }
+    matches(pattern, text, mode)
 }
 
 // Whether a pattern whose last `/` has gone matches: one with a `/` the rest, in path mode; any other the component.
@@ -38,18 +51,18 @@ fn bare_matches(pattern: &[u8], rest: &[u8], component: &[u8], fold: bool) -> bo
             fold: fold,
         };
         if pattern[0] != 47 {
-            return matches(pattern, rest, anchored);
+            return text_matches(pattern, rest, anchored);
         }
         if pattern.len() == 1 {
             return false;
         }
-        return matches(&pattern[1..], rest, anchored);
+        return text_matches(&pattern[1..], rest, anchored);
     }
     let plain = Mode {
         path: false,
         fold: fold,
     };
-    matches(pattern, component, plain)
+    text_matches(pattern, component, plain)
 }
 
 // Whether the pattern of a line matches an entry: the rest is the entry from the base on, the component its last one.

@@ -13,3 +13,4 @@ pub mod SkipLaws
 pub mod WayLaws
 pub mod ReachLaws
 pub mod EndLaws
+pub mod FrontLaws

@@ -21,35 +21,35 @@ has-slash-requires c κs = search needs
 shared-slice-read-if4 : tie.Need-shared-slice-read-if4
 shared-slice-read-if4 c = search needs
 
-matches-requires : tie.Need-matches-requires
-matches-requires c κs = search needs
+text-matches-requires : tie.Need-text-matches-requires
+text-matches-requires c κs = search needs
 
 returns-3 : tie.Need-returns-3
-returns-3 c = bare-rest _ _ _ _ _ (c .before .before .before .before .before .before .before .if1 .left) (sym (c .before .before .before .before .has-slash .ensures) ∙ c .before .before .before .if3 .taken) (c .before .if4 .taken) (c .matches .ensures .test)
+returns-3 c = bare-rest _ _ _ _ _ (c .before .before .before .before .before .before .before .if1 .left) (sym (c .before .before .before .before .has-slash .ensures) ∙ c .before .before .before .if3 .taken) (c .before .if4 .taken) (c .text-matches .ensures)
 
 returns-4 : tie.Need-returns-4
 returns-4 c = sym (bare-slash _ _ _ _ (c .before .if4 .left) (c .if5 .taken))
 
-sub-matches : tie.Need-sub-matches
-sub-matches c = search needs
+sub-text-matches : tie.Need-sub-text-matches
+sub-text-matches c = search needs
 
-part-matches-start : tie.Need-part-matches-start
-part-matches-start c = search needs
+part-text-matches-start : tie.Need-part-text-matches-start
+part-text-matches-start c = search needs
 
-part-matches-end : tie.Need-part-matches-end
-part-matches-end c = search needs
+part-text-matches-end : tie.Need-part-text-matches-end
+part-text-matches-end c = search needs
 
-matches-requires-2 : tie.Need-matches-requires-2
-matches-requires-2 c κs = search needs
+text-matches-requires-2 : tie.Need-text-matches-requires-2
+text-matches-requires-2 c κs = search needs
 
 returns-5 : tie.Need-returns-5
-returns-5 c = bare-anchored _ _ _ _ _ (c .before .before .before .if4 .left) (c .before .before .before .before .before .before .before .before .before .if1 .left) (c .before .before .if5 .left) (c .matches2 .ensures .test)
+returns-5 c = bare-anchored _ _ _ _ _ (c .before .before .before .if4 .left) (c .before .before .before .before .before .before .before .before .before .if1 .left) (c .before .before .if5 .left) (c .text-matches2 .ensures)
 
-matches-requires-3 : tie.Need-matches-requires-3
-matches-requires-3 c κs = search needs
+text-matches-requires-3 : tie.Need-text-matches-requires-3
+text-matches-requires-3 c κs = search needs
 
 returns-6 : tie.Need-returns-6
-returns-6 c = bare-component _ _ _ _ _ (c .before .before .before .before .before .if1 .left) (sym (c .before .before .has-slash .ensures) ∙ c .before .if3 .left) (c .matches3 .ensures .test)
+returns-6 c = bare-component _ _ _ _ _ (c .before .before .before .before .before .if1 .left) (sym (c .before .before .has-slash .ensures) ∙ c .before .if3 .left) (c .text-matches3 .ensures)
 
 pub bare-matches-spec : {M : Type 1} → statement M
 bare-matches-spec =
@@ -60,13 +60,13 @@ bare-matches-spec =
     returns-2
     has-slash-requires
     shared-slice-read-if4
-    matches-requires
+    text-matches-requires
     returns-3
     returns-4
-    sub-matches
-    part-matches-start
-    part-matches-end
-    matches-requires-2
+    sub-text-matches
+    part-text-matches-start
+    part-text-matches-end
+    text-matches-requires-2
     returns-5
-    matches-requires-3
+    text-matches-requires-3
     returns-6)
