@@ -3,161 +3,19 @@ ghost use Rattle.lending.specs.Room.{Within};
 use crate::buffers;
 use crate::fields::append;
 use crate::fields::append_field;
-use crate::fields::append_number;
 use crate::given;
 use crate::listing;
 use crate::listing::Found;
 use crate::listing::Line;
 use crate::words;
-use attributelines::State;
+use crate::written::append_attribute;
+use crate::written::append_ignore;
 use lending::Lending;
 use lending::Lent;
 use libc::STDOUT_FILENO;
-use questions::AttributeAnswer;
-use questions::Decided;
-use questions::IgnoreAnswer;
-use questions::Spoken;
-use rulefiles::Place;
 
 // Answers are written out when so many bytes of them wait; an answer has fewer than the buffer has left then.
 const WAITING: usize = 131072;
-
-// Puts the name of the rule file that argument `i` names.
-fn append_name(out: &mut [u8], at: usize, i: usize) -> usize {
-    let mut name = io::buffer();
-    let n = os::arg(i, &mut name);
-    append_field(out, at, &name[..n])
-}
-
-// Puts the rule file and the line, each after a tab. `numbers` says which of the given files was lent, `names` which argument names it.
-fn append_place(
-    out: &mut [u8],
-    at: usize,
-    place: Place,
-    numbers: &[usize],
-    names: &[usize],
-) -> usize {
-    let file = place.file;
-    if file >= numbers.len() {
-        return at;
-    }
-    let number = numbers[file];
-    if number >= names.len() {
-        return at;
-    }
-    let a = append(out, at, b"\t");
-    let b = append_name(out, a, names[number]);
-    let c = append(out, b, b"\t");
-    append_number(out, c, place.line as u64)
-}
-
-fn append_refusal(out: &mut [u8], at: usize, number: u8) -> usize {
-    let a = append(out, at, b"refused ");
-    let b = append_number(out, a, number as u64);
-    let c = append(out, b, b": ");
-    words::reason(number, out, c)
-}
-
-// Puts the verdict and the entry that it is about. An entry above the path is a directory; the path is as the listing has it.
-fn append_decided(
-    out: &mut [u8],
-    at: usize,
-    verdict: &[u8],
-    d: Decided,
-    line: &[u8],
-    numbers: &[usize],
-    names: &[usize],
-) -> usize {
-    let n = d.length;
-    let place = d.place;
-    let a = append(out, at, verdict);
-    let b = append(out, a, b"\t");
-    if n < line.len() {
-        let c = append_field(out, b, &line[..n + 1]);
-        return append_place(out, c, place, numbers, names);
-    }
-    let c = append_field(out, b, line);
-    append_place(out, c, place, numbers, names)
-}
-
-fn append_ignore(
-    out: &mut [u8],
-    at: usize,
-    answer: IgnoreAnswer,
-    line: &[u8],
-    numbers: &[usize],
-    names: &[usize],
-) -> usize {
-    match answer {
-        IgnoreAnswer::Nothing => append(out, at, b"nothing"),
-        IgnoreAnswer::Ignored(d) => append_decided(out, at, b"ignored", d, line, numbers, names),
-        IgnoreAnswer::Reincluded(d) => append_decided(
-            out,
-            at,
-            b"re-included",
-            d,
-            line,
-            numbers,
-            names,
-        ),
-        IgnoreAnswer::Refused(n) => append_refusal(out, at, n),
-    }
-}
-
-// Puts a value, which lies in the rules.
-fn append_value(out: &mut [u8], at: usize, rules: &[u8], start: usize, length: usize) -> usize {
-    let a = append(out, at, b"value ");
-    if start > rules.len() {
-        return a;
-    }
-    if length > rules.len() - start {
-        return a;
-    }
-    append_field(out, a, &rules[start..start + length])
-}
-
-fn append_state(out: &mut [u8], at: usize, state: State, rules: &[u8]) -> usize {
-    match state {
-        State::Set => append(out, at, b"set"),
-        State::Unset => append(out, at, b"unset"),
-        State::Value(v) => append_value(out, at, rules, v.start, v.length),
-        State::Unspecified => append(out, at, b"unspecified"),
-    }
-}
-
-// Puts the state; the entry is the path itself.
-fn append_spoken(
-    out: &mut [u8],
-    at: usize,
-    s: Spoken,
-    line: &[u8],
-    rules: &[u8],
-    numbers: &[usize],
-    names: &[usize],
-) -> usize {
-    let state = s.state;
-    let place = s.place;
-    let a = append_state(out, at, state, rules);
-    let b = append(out, a, b"\t");
-    let c = append_field(out, b, line);
-    append_place(out, c, place, numbers, names)
-}
-
-fn append_attribute(
-    out: &mut [u8],
-    at: usize,
-    answer: AttributeAnswer,
-    line: &[u8],
-    rules: &[u8],
-    numbers: &[usize],
-    names: &[usize],
-) -> usize {
-    match answer {
-        AttributeAnswer::Nothing => append(out, at, b"nothing"),
-        AttributeAnswer::Said(s) => append_spoken(out, at, s, line, rules, numbers, names),
-        AttributeAnswer::Refused(n) => append_refusal(out, at, n),
-    }
-}
 
 // What is asked of each path: the ignore question, or the attribute question for a name.
 pub struct Question {

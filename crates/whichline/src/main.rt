@@ -8,6 +8,7 @@ mod given;
 mod listing;
 mod reading;
 mod words;
+mod written;
 
 use crate::arguments::Asked;
 

@@ -3,8 +3,8 @@ use mathlib.Core.Path.{sym}
 use native.Mathlib.Omega.{arith}
 use borrow.Author.Needs.{needs}
 use lib.Seq.{length-take-le}
-use Rattle.whichline.proofs.answers.append_decided.Statement.{statement}
-use Rattle.whichline.proofs.answers.append_decided.Tie as tie
+use Rattle.whichline.proofs.written.append_decided.Statement.{statement}
+use Rattle.whichline.proofs.written.append_decided.Tie as tie
 
 append-requires : tie.Need-append-requires
 append-requires c κs = search needs
