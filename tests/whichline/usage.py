@@ -1,0 +1,74 @@
+"""Wrong usage, and files and streams that fail: one line on standard error, and no answer."""
+import os
+import subprocess
+
+RULES = 65536
+# What is asked, and what the one line must speak of.
+WORDS = [([], b"ignore"), (["fill"], b"ignore"), (["ignored", "top"], b"ignore"), ([""], b"ignore"), (["--fold", "ignore", "top"], b"ignore"),
+         (["attribute"], b"attribute"), (["attribute", "fill"], b"rule file"), (["ignore"], b"rule file"), (["ignore", "--fold"], b"rule file"),
+         (["ignore", "--bad", "top"], b"--bad"), (["ignore", "top", "--bad"], b"--bad"), (["ignore", "--in=sky", "top"], b"--in=sky"),
+         (["ignore", "--"], b"--"), (["ignore", "top", "--in"], b"--in"), (["ignore", "top", "--in", "sky"], b"--in"),
+         (["ignore", "missing"], b"missing: "), (["ignore", "top", "--in", "sky", "missing"], b"missing: "), (["ignore", ""], b": "),
+         (["attribute", "fill", "top", "missing"], b"missing: "), (["ignore", "folder"], b"folder: "), (["ignore", "top/"], b"top/: "),
+         (["ignore", "top", "n" * 5000], b"too long"), (["ignore", "top", "--in", "n" * 5000, "top"], b"too long"), (["-h"], b"--help"),
+         (["ignore", "top", "large"], b"large: over 65,536"), (["attribute", "fill", "huge"], b"huge: over 65,536"), (["ignore", "endless"], b"endless: over 65,536")]
+NO_DIRECTORIES = ["", "/", ".", "..", "./sky", "../sky", "sky/..", "/a", "/a/", "a//b", "a//", "//", "a/./b", "a/../b/", "n" * 4097 + "/"]
+
+
+def words(trial):
+    trial.write({"top": b"*\n", "large": b"#" * (RULES + 1), "huge": b"#" * 5000000})
+    os.mkdir(os.path.join(trial.folder, "folder"))
+    os.symlink("/dev/zero", os.path.join(trial.folder, "endless"))
+    for asked, part in WORDS:
+        trial.complains(f"asked {[word[:20] for word in asked]}", asked, part)
+    for directory in NO_DIRECTORIES:
+        part = b"too long" if len(directory) > 4096 else b"whichline: " + directory.encode() + b": no directory"
+        trial.complains(f"--in {directory[:20]!r}", ["ignore", "top", "--in", directory, "top"], part)
+
+
+def many(trial):
+    """Just too many files, bytes, and bytes of directories."""
+    trial.write({"top": b"*\n", "most": b"#" * RULES, "one": b"#"})
+    trial.complains("257 files", ["ignore", *["top"] * 257], b"256")
+    trial.complains("257 files in directories", ["ignore", *["--in", "a", "top"] * 257], b"256")
+    trial.complains("262,145 bytes together", ["ignore", *["most"] * 4, "one"], b"one: with the files before it, over 262,144")
+    trial.complains("far over 262,144 bytes together", ["ignore", *["most"] * 3, "one", "most"], b"most: with the files before it, over 262,144")
+    long = "n" * 4095
+    trial.answers("directories of 65,536 bytes", ["ignore", *["--in", long, "top"] * 16], b"a\n", [("a", "nothing")])
+    trial.complains("directories of 65,538 bytes", ["ignore", *["--in", long, "top"] * 16, "--in", "a", "top"], b"65,536")
+
+
+def unreadable(trial):
+    """A file without rights; root may read it all the same, and then it is not asked."""
+    trial.write({"shut": b"*\n"})
+    shut = os.path.join(trial.folder, "shut")
+    os.chmod(shut, 0)
+    if not os.access(shut, os.R_OK):
+        trial.complains("a file without rights", ["ignore", "shut"], b"shut: ")
+
+
+def streams(trial):
+    """Standard output that is full or closed, standard input that cannot be read."""
+    trial.write({"top": b"*\n"})
+    with open("/dev/full", "wb") as full:
+        trial.complains("a full standard output", ["ignore", "top"], b"standard output: ", stdout=full)
+    trial.complains("a closed standard output", ["ignore", "top"], b"standard output", stdout=None, preexec_fn=lambda: os.close(1))
+    folder = os.open(trial.folder, os.O_RDONLY)
+    trial.complains("a directory as standard input", ["ignore", "top"], b"standard input: ", stdin=folder)
+    os.close(folder)
+    trial.complains("a closed standard input", ["ignore", "top"], b"standard input: ", stdin=subprocess.DEVNULL, preexec_fn=lambda: os.close(0))
+
+
+def helps(trial):
+    """--help, wherever it stands: on standard output, with every option and word; nothing is read or asked."""
+    for asked in (["--help"], ["ignore", "--help"], ["attribute", "--help"], ["ignore", "missing", "--help"], ["--bad", "--help"]):
+        trial.asked += 1
+        done = trial.run(asked, b"a\n", installed=True)
+        missing = [word for word in (b"--fold", b"--in", b"ignore", b"attribute", b"re-included", b"unspecified", b"refused") if word not in done.stdout]
+        if missing or done.stderr or done.returncode or not done.stdout.endswith(b"\n"):
+            trial.fault(f"help by {asked}", f"status {done.returncode}, said {done.stderr!r}, without {missing}")
+
+
+def check(trial):
+    for part in (words, many, unreadable, streams, helps):
+        part(trial)
