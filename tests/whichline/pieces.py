@@ -30,14 +30,14 @@ def waits(pipe):
 def feed(command, folder, pieces):
     """What the program prints if it reads each piece by itself: the next is written when the one before is gone."""
     with tempfile.TemporaryFile() as out:
-        running = subprocess.Popen(command, cwd=folder, stdin=subprocess.PIPE, stdout=out)
+        running, end = subprocess.Popen(command, cwd=folder, stdin=subprocess.PIPE, stdout=out), time.monotonic() + 120
         # A program that ends too early has printed too little, and that is seen.
         with contextlib.suppress(BrokenPipeError):
             for piece in pieces:
                 os.write(running.stdin.fileno(), piece)
-                while waits(running.stdin.fileno()) and running.poll() is None:
+                while waits(running.stdin.fileno()) and running.poll() is None and time.monotonic() < end:
                     time.sleep(0)
         running.stdin.close()
-        running.wait()
+        running.wait(120)
         out.seek(0)
         return out.read()

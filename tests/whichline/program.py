@@ -73,11 +73,13 @@ class Trial:
         shutil.rmtree(self.folder)
         os.mkdir(self.folder)
         for name, content in files.items():
-            with open(os.path.join(os.fsencode(self.folder), as_bytes(name)), "wb") as out:
+            place = os.path.join(os.fsencode(self.folder), as_bytes(name))
+            os.makedirs(os.path.dirname(place), exist_ok=True)
+            with open(place, "wb") as out:
                 out.write(content)
 
     def run(self, words, listing=b"", installed=False, **more):
-        more = {"stdout": subprocess.PIPE, "stderr": subprocess.PIPE} | more
+        more = {"stdout": subprocess.PIPE, "stderr": subprocess.PIPE, "timeout": 120} | more
         if "stdin" not in more:
             more["input"] = listing
         return subprocess.run([self.installed if installed else str(self.program), *words], cwd=self.folder, **more)
