@@ -1,2 +1,4 @@
-pub mod AboveLaws
+-- Laws that the crates above cite too.
 pub mod LendLaws
+-- Laws that only this crate's proofs use.
+pub mod AboveLaws

@@ -1,6 +1,8 @@
--- what a reader must believe
+-- What a reader must believe:
 pub mod Lending
--- theorems about it
+-- Theorems about it:
 pub mod Meaning
--- inner: what a private contract cites
+pub mod Laid
+pub mod LentFiles
+-- Inner definitions, which only the contracts of private functions cite:
 pub mod Room

@@ -214,7 +214,8 @@ fn answer_found(
     write_out(out, end, false)
 }
 
-// Answers all lines of the listing, one after the other.
+// Answers all lines of the listing, one after the other. What is answered is written out before more is read, so that nobody waits for it. A
+// proved loop has to end and nothing says that a listing does, so the turns are counted down from a number that no listing uses up.
 fn answer_all(
     out: &mut [u8],
     q: Question,
@@ -230,30 +231,38 @@ fn answer_all(
     let mut u = listing::at_start();
     let mut at = 0;
     let mut turns = u64::MAX;
-    while turns > 0 {
+    while turns > 0 && at != usize::MAX {
         turns -= 1;
-        let found = listing::next(input, u);
-        let Found::Next(line) = found else {
-            write_out(out, at, true);
-            return;
-        };
-        u = line.after;
-        at = answer_found(
-            out,
-            at,
-            q,
-            name,
-            input,
-            line,
-            files,
-            file_ends,
-            directories,
-            directory_ends,
-            names,
-            rules,
-        );
-        if at == usize::MAX {
-            return;
+        let found = listing::look(input, u);
+        match found {
+            Found::Over => {
+                write_out(out, at, true);
+                return;
+            }
+            Found::Again(rest) => {
+                u = rest;
+            }
+            Found::More(rest) => {
+                at = write_out(out, at, true);
+                u = listing::read_more(input, rest);
+            }
+            Found::Next(line) => {
+                u = line.after;
+                at = answer_found(
+                    out,
+                    at,
+                    q,
+                    name,
+                    input,
+                    line,
+                    files,
+                    file_ends,
+                    directories,
+                    directory_ends,
+                    names,
+                    rules,
+                );
+            }
         }
     }
 }

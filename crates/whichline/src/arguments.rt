@@ -48,7 +48,7 @@ pub fn wants_help() -> bool {
     false
 }
 
-// What is asked; an attribute's name is put at the front of `name`.
+// What is asked; an attribute's name is put at the front of `name`. Of one that is too long for that the front will do: it is refused.
 pub fn what_is_asked(name: &mut [u8]) -> Asked {
     if is(1, b"ignore") {
         return Asked::Ignore;
@@ -56,8 +56,15 @@ pub fn what_is_asked(name: &mut [u8]) -> Asked {
     if !is(1, b"attribute") {
         return Asked::Wrong;
     }
+    if is(2, b"--fold") || is(2, b"--in") {
+        return Asked::Wrong;
+    }
     let n = os::arg(2, name);
-    if os::errno() != 0 {
+    let error = os::errno();
+    if error == libc::ENAMETOOLONG {
+        return Asked::Attribute(name.len());
+    }
+    if error != 0 {
         return Asked::Wrong;
     }
     Asked::Attribute(n)

@@ -146,7 +146,7 @@ fn unreadable() -> Unread {
 }
 
 // Reads more behind the unread bytes. There is room: no more than a line's front is kept.
-fn read_more(buf: &mut [u8], u: Unread) -> Unread {
+pub fn read_more(buf: &mut [u8], u: Unread) -> Unread {
     let have = move_front(buf, u.start, u.have);
     if have >= buf.len() {
         return unreadable();
@@ -163,25 +163,11 @@ fn read_more(buf: &mut [u8], u: Unread) -> Unread {
     }
 }
 
-// The next line of the listing. A proved loop has to end and nothing says that a listing does, so the turns are counted down from a
-// number that no listing uses up.
-pub fn next(buf: &mut [u8], unread: Unread) -> Found {
-    let mut u = unread;
-    let mut turns = u64::MAX;
-    while turns > 0 {
-        turns -= 1;
-        let end = line_end(buf, u.start, u.have);
-        let found = if end < u.have {
-            ended(u, end)
-        } else {
-            unended(u)
-        };
-        match found {
-            Found::Next(l) => return Found::Next(l),
-            Found::Over => return Found::Over,
-            Found::More(rest) => u = read_more(buf, rest),
-            Found::Again(rest) => u = rest,
-        }
+// What the unread bytes come to.
+pub fn look(buf: &[u8], u: Unread) -> Found {
+    let end = line_end(buf, u.start, u.have);
+    if end < u.have {
+        return ended(u, end);
     }
-    Found::Over
+    unended(u)
 }

@@ -1,12 +1,11 @@
 -- `lending::lend` meets its contract: what is lent so far, and what of the files is still to come, make up the lists.
-use mathlib.Core.Path.{_≡_, refl, sym, ap, _∙_}
-use mathlib.Core.List.{List}
-use Prim.Native.Nat.{ℕ, _+_, _-_, _<_, _≤_}
+use mathlib.Core.Path.{_≡_, refl, _∙_}
+use Prim.Native.Nat.{_-_, _≤_}
 use native.Mathlib.Omega.{arith}
 use borrow.Author.Needs.{needs}
 use denote.Ref.{now}
-use lib.ListN.{length, getD}
-use Rattle.lending.specs.Lending.{parts, lists, Holds}
+use lib.ListN.{length}
+use Rattle.lending.specs.Lending.{parts, lists}
 use Rattle.lending.specs.Room.{Within, taken}
 use Rattle.lending.proofs.LendLaws.{pending, pending-end, pending-short, taken-holds, turn-full, turn-done}
 use Rattle.lending.proofs.lend.Statement.{statement}
