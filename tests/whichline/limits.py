@@ -54,11 +54,12 @@ def byte_zero(trial):
 
 
 def names(trial):
-    """A name of 255 bytes is asked for, one of 256 refused."""
+    """A name of 255 bytes is asked for, a longer one refused."""
     name = "x" * 255
     trial.write({"top": b"* " + name.encode() + b"\n"})
     trial.answers("a name of 255 bytes", ["attribute", name, "top"], b"a\n", [("a", "set", "a", "top", 1)])
-    trial.answers("a name of 256 bytes", ["attribute", name + "x", "top"], b"a\n", [("a", "refused 6")])
+    for longer in (256, 4096, 4097, 9000):
+        trial.answers(f"a name of {longer} bytes", ["attribute", "x" * longer, "top"], b"a\n", [("a", "refused 6")])
 
 
 def paths(trial):

@@ -2,6 +2,7 @@
 import os
 import pty
 import re
+import select
 import subprocess
 import tty
 
@@ -53,6 +54,19 @@ def through_pipes(trial):
         trial.fault("as installed", f"status {done.returncode}, {len(done.stdout)} bytes, said {done.stderr!r}")
 
 
+def at_once(trial):
+    """What can be answered is answered before the listing goes on: somebody may be typing it."""
+    trial.write({"top": b"cal/\n"})
+    trial.asked += 1
+    running = subprocess.Popen([str(trial.program), "ignore", "top"], cwd=trial.folder, stdin=subprocess.PIPE, stdout=subprocess.PIPE)
+    os.write(running.stdin.fileno(), b"cal/\nunfinish")
+    ready, _, _ = select.select([running.stdout], [], [], 20)
+    first = os.read(running.stdout.fileno(), 1000) if ready else b"nothing"
+    rest, _ = running.communicate(b"ed\n", timeout=60)
+    if (first, rest) != (b"cal/\tignored\tcal/\ttop\t1\n", b"unfinished\tnothing\n"):
+        trial.fault("answers at once", f"first {first!r}, then {rest!r}")
+
+
 def broken_off(trial):
     """A listing that fails behind some lines: those are answered, the unfinished one is not, and it is said."""
     trial.write({"top": b"*\n"})
@@ -70,5 +84,5 @@ def broken_off(trial):
 
 
 def check(trial):
-    for part in (ends, quoting, every_byte, through_pipes, broken_off):
+    for part in (ends, quoting, every_byte, through_pipes, at_once, broken_off):
         part(trial)

@@ -8,9 +8,11 @@ WORDS = [([], b"ignore"), (["fill"], b"ignore"), (["ignored", "top"], b"ignore")
          (["attribute"], b"attribute"), (["attribute", "fill"], b"rule file"), (["ignore"], b"rule file"), (["ignore", "--fold"], b"rule file"),
          (["ignore", "--bad", "top"], b"--bad"), (["ignore", "top", "--bad"], b"--bad"), (["ignore", "--in=sky", "top"], b"--in=sky"),
          (["ignore", "--"], b"--"), (["ignore", "top", "--in"], b"--in"), (["ignore", "top", "--in", "sky"], b"--in"),
-         (["ignore", "missing"], b"missing: "), (["ignore", "top", "--in", "sky", "missing"], b"missing: "), (["ignore", ""], b": "),
+         (["ignore", "missing"], b"missing: "), (["ignore", "top", "--in", "sky", "missing"], b"missing: "), (["ignore", ""], b'"": '),
          (["attribute", "fill", "top", "missing"], b"missing: "), (["ignore", "folder"], b"folder: "), (["ignore", "top/"], b"top/: "),
          (["ignore", "top", "n" * 5000], b"too long"), (["ignore", "top", "--in", "n" * 5000, "top"], b"too long"), (["-h"], b"--help"),
+         (["ignore", "no\nfile"], rb'"no\nfile": '), (["ignore", "--a\nb", "top"], rb'"--a\nb": '), (["ignore", "top", "--in", "a\n/", "missing\x1b"], rb'"missing\033": '),
+         (["attribute", "--fold", "fill", "top"], b"its name"), (["attribute", "--in", "sky", "top"], b"its name"),
          (["ignore", "top", "large"], b"large: over 65,536"), (["attribute", "fill", "huge"], b"huge: over 65,536"), (["ignore", "endless"], b"endless: over 65,536")]
 NO_DIRECTORIES = ["", "/", ".", "..", "./sky", "../sky", "sky/..", "/a", "/a/", "a//b", "a//", "//", "a/./b", "a/../b/", "n" * 4097 + "/"]
 
@@ -22,7 +24,7 @@ def words(trial):
     for asked, part in WORDS:
         trial.complains(f"asked {[word[:20] for word in asked]}", asked, part)
     for directory in NO_DIRECTORIES:
-        part = b"too long" if len(directory) > 4096 else b"whichline: " + directory.encode() + b": no directory"
+        part = b"too long" if len(directory) > 4096 else b"whichline: " + (directory.encode() or b'""') + b": no directory"
         trial.complains(f"--in {directory[:20]!r}", ["ignore", "top", "--in", directory, "top"], part)
 
 
@@ -54,6 +56,7 @@ def streams(trial):
     trial.write({"top": b"*\n"})
     with open("/dev/full", "wb") as full:
         trial.complains("a full standard output", ["ignore", "top"], b"standard output: ", stdout=full)
+        trial.complains("help to a full standard output", ["--help"], b"standard output: ", stdout=full)
     trial.complains("a closed standard output", ["ignore", "top"], b"standard output", stdout=None, preexec_fn=lambda: os.close(1))
     folder = os.open(trial.folder, os.O_RDONLY)
     trial.complains("a directory as standard input", ["ignore", "top"], b"standard input: ", stdin=folder)

@@ -20,8 +20,8 @@ partsFrom start bytes (end ∷ ends) = part start end bytes ∷ partsFrom end by
 unfoldable pub parts : List ℕ → List ℕ → List (List ℕ)
 parts bytes ends = partsFrom 0 bytes ends
 
--- A file stands above a path if its directory, with its last slash, is the front of the path and more follows. At the top the directory is
--- empty. (Meaning below: `Above`.)
+-- "the files above it": a file's directory, with its last slash, is the front of the path, and more follows, since "A file applies to a path
+-- or directory of n bytes only if its base is less than n." At the top the directory is empty. (specs/Meaning.antt says it by `Above`.)
 unfoldable pub above : List ℕ → List ℕ → Bool
 above [] [] = false
 above [] (y ∷ path) = true
@@ -45,7 +45,7 @@ withFile number directory file l =
 unfoldable pub lendOne : List ℕ → ℕ → List ℕ → List ℕ → Lists → Lists
 lendOne path number directory file l = cond (above directory path) (withFile number directory file l) l
 
--- one file after the other from a number on, each with its directory
+-- one file after the other from a number on, each with its directory; a file for which none is given is not lent
 abbrev pub lendAll : List ℕ → ℕ → List (List ℕ) → List (List ℕ) → Lists → Lists
 lendAll path number ds [] l = l
 lendAll path number [] (f ∷ fs) l = l
