@@ -4,7 +4,8 @@
  * usage: loader FOLDER
  *
  * FOLDER holds the rule files of each layer (fleet.ignore, fleet.attributes,
- * site.ignore, site.attributes) and listing.txt, one path of a file a line.
+ * site.ignore, site.attributes) and listing.txt, one path of a file a line, ended
+ * by a newline alone: a CR would be part of the path, and no line would match it.
  * Prints one line a path. Status 0; 1 if a question was refused; 2 if a file
  * could not be read, and then nothing is loaded or filled.
  *
@@ -15,7 +16,8 @@
  * as one. That is safe: rules are lines in an order, the last one that speaks of
  * an entry wins, and laid so the lines are those of the fleet file and then
  * those of the site file, byte for byte. lay() minds the two things that could
- * change a line where two files meet.
+ * change a line where two files meet. All layers together may have 65,536 bytes;
+ * beyond that each question is refused (3), and nothing is loaded or filled.
  *
  * To ask file by file and combine the codes is not safe. An ignore answer has
  * its own file's parents in it, and such answers do not compose:
@@ -36,6 +38,7 @@
  * start at its own directory. */
 #include "fidshore.h"
 
+#include <errno.h>
 #include <stdio.h>
 #include <stdlib.h>
 #include <string.h>
@@ -76,7 +79,11 @@ static struct bytes read_file(const char *folder, const char *stem, const char *
     char name[4096], part[4096];
     struct bytes all = { NULL, 0 };
     int len = snprintf(name, sizeof name, "%s/%s.%s", folder, stem, ending);
-    FILE *file = len > 0 && (size_t)len < sizeof name ? fopen(name, "rb") : NULL;
+    if (len < 0 || (size_t)len >= sizeof name) {
+        errno = ENAMETOOLONG;
+        stop("FOLDER");
+    }
+    FILE *file = fopen(name, "rb");
     if (!file) stop(name);
     for (size_t got; (got = fread(part, 1, sizeof part, file)) > 0;) put(&all, part, got);
     if (ferror(file)) stop(name);

@@ -85,7 +85,7 @@ extern "C" {
  * Codes: FIDSHORE_NO_MATCH (also for a broken pattern, as `[a-z`),
  *        FIDSHORE_MATCH; 16 plus refusal 7, 8 or 9.
  * Limits: 2,048 bytes of pattern, 4,096 of text. Both may be empty.
- * Stack: at most 143 KB. Time: about 50 ns for a short pattern; the work grows at
+ * Stack: at most 143 KB. Time: about 35 ns for a short pattern; the work grows at
  * most as pattern times text, and no input found takes over 100 ms.
  * Threads, buffers, null pointers: as said above.
  *

@@ -12,6 +12,7 @@ WORDS = [([], b"ignore"), (["fill"], b"ignore"), (["ignored", "top"], b"ignore")
          (["attribute", "fill", "top", "missing"], b"missing: "), (["ignore", "folder"], b"folder: "), (["ignore", "top/"], b"top/: "),
          (["ignore", "top", "n" * 5000], b"too long"), (["ignore", "top", "--in", "n" * 5000, "top"], b"too long"), (["-h"], b"--help"),
          (["ignore", "no\nfile"], rb'"no\nfile": '), (["ignore", "--a\nb", "top"], rb'"--a\nb": '), (["ignore", "top", "--in", "a\n/", "missing\x1b"], rb'"missing\033": '),
+         (["ignore", "--in", "--fold", "top"], b"--in"), (["ignore", "--in", "sky", "--fold", "top"], b"--in"), (["ignore", "--in", "--in", "sky", "top"], b"--in"),
          (["attribute", "--fold", "fill", "top"], b"its name"), (["attribute", "--in", "sky", "top"], b"its name"),
          (["ignore", "top", "large"], b"large: over 65,536"), (["attribute", "fill", "huge"], b"huge: over 65,536"), (["ignore", "endless"], b"endless: over 65,536")]
 NO_DIRECTORIES = ["", "/", ".", "..", "./sky", "../sky", "sky/..", "/a", "/a/", "a//b", "a//", "//", "a/./b", "a/../b/", "n" * 4097 + "/"]

@@ -15,7 +15,7 @@ use Rattle.wildmatch.specs.Outcomes.{isLiteral}
 use Rattle.wildmatch.specs.declared.Mode.{Mode}
 use Rattle.wildmatch.specs.Test.{matchesTest}
 use Rattle.entries.specs.Entries.{has, isEmpty, bareMatches}
-use Rattle.entries.specs.Ending.{endTaken, Excludes, Differs}
+use Rattle.entries.specs.Ending.{endTaken, Excludes, ExcludesText}
 
 -- The text's last byte.
 
@@ -116,19 +116,19 @@ begins fold c [] h = absurd h
 begins fold c (x ∷ t) h = h
 
 module _ (fold : Bool) (t : List ℕ) where
-  pub differs-none : (p : List ℕ) → Differs fold p t false
-  unfolding Differs
+  pub differs-none : (p : List ℕ) → ExcludesText fold p t false
+  unfolding ExcludesText
   differs-none p e = absurd (false≢true e)
 
   pub differs-first : (p : List ℕ) (c : ℕ) (r : Bool) → (length p ≡ 0 → ⊥) → getD p 0 0 ≡ c → endTaken fold c (take 1 t) ≡ false → (c ≡ 42 → ⊥) → (c ≡ 63 → ⊥) → (c ≡ 91 → ⊥)
-      → r ≡ not (eqb c 92) → Differs fold p t r
-  unfolding Differs
+      → r ≡ not (eqb c 92) → ExcludesText fold p t r
+  unfolding ExcludesText
   differs-first [] c r l e n a b d q h path = absurd (l refl)
   differs-first (x ∷ p) c r l e n a b d q h path =
       let z : isLiteral x ≡ true = is-literal x (λ i. a (sym e ∙ i)) (λ i. b (sym e ∙ i)) (λ i. d (sym e ∙ i)) (ap (λ (k : ℕ). not (eqb k 92)) e ∙ sym q ∙ h) in
       false-if-not _ (λ w. not-both (begins fold c t (subst (λ (k : ℕ). FirstTaken fold k t) e (first-taken (record { path = path; fold = fold }) x p t z w))) n)
 
 -- and a pattern that is asked about anyhow
-pub text-differs : (m : Mode) (p t : List ℕ) (r : Bool) → Differs (m .fold) p t r → r ≡ true → false ≡ matchesTest m p t
-unfolding Differs
+pub text-differs : (m : Mode) (p t : List ℕ) (r : Bool) → ExcludesText (m .fold) p t r → r ≡ true → false ≡ matchesTest m p t
+unfolding ExcludesText
 text-differs m p t r h e = sym (h e (m .path))

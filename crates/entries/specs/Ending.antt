@@ -18,5 +18,5 @@ unfoldable pub Excludes : Bool → List ℕ → List ℕ → List ℕ → Bool �
 Excludes fold rest component p r = r ≡ true → bareMatches fold rest component p ≡ false
 
 -- where the answer is yes, the pattern does not match the text, in path mode or without it
-unfoldable pub Differs : Bool → List ℕ → List ℕ → Bool → Type 0
-Differs fold p t r = r ≡ true → (path : Bool) → matchesTest (record { path = path; fold = fold }) p t ≡ false
+unfoldable pub ExcludesText : Bool → List ℕ → List ℕ → Bool → Type 0
+ExcludesText fold p t r = r ≡ true → (path : Bool) → matchesTest (record { path = path; fold = fold }) p t ≡ false

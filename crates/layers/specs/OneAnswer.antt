@@ -30,7 +30,7 @@ one-answer : {A : Type 0} (refusal : ℕ → A) (Condition : ℕ → Type 0) (an
 one-answer refusal Condition answer a b ra rb aa ab (inl e) = e .1 ∙ sym (rb (e .0) .1 (ra (e .0) .0 (e .1)))
 one-answer refusal Condition answer a b ra rb aa ab (inr e) = let all = accepted-then Condition (λ n h. e n (ra n .1 h)) in aa all ∙ sym (ab all)
 
--- an answer is a refusal, or it is none
+-- An answer is a refusal, or it is none: two different cases are never equal, and from such an equation `cc` gets 0 ≡ 1.
 ignore-case : (a : IgnoreAnswer) → ((n : ℕ) × (a ≡ Refused n)) ⊎ ((n : ℕ) → a ≡ Refused n → ⊥)
 ignore-case Nothing = inr (λ n e. let z : _≡_ {A = ℕ} 0 1 = cc in omega arith)
 ignore-case (Ignored d) = inr (λ n e. let z : _≡_ {A = ℕ} 0 1 = cc in omega arith)

@@ -20,7 +20,7 @@ filesAbove path number start (d ∷ ds) (f ∷ fs) =
     cond (above d path) (record { number = number; base = length d; start = start; bytes = f } ∷ filesAbove path (number + 1) (start + length f) ds fs)
     (filesAbove path number start ds fs)
 
--- the last file's number and start, counted on from a number and a start
+-- the number and the start of a file that is laid behind these, counted on from a number and a start
 abbrev numberOn : ℕ → List ℕ → ℕ
 numberOn m [] = m
 numberOn m (e ∷ es) = numberOn (suc m) es

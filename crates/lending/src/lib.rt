@@ -79,7 +79,8 @@ fn lend_file(
 }
 
 // Lends the files that stand above the path. Their bytes lie end to end in `files`, by their ends, and so do the directories
-// that they stand in, each with its last slash, in `directories`.
+// that they stand in, each with its last slash, in `directories`. What is lent is put at the front of `rules`, `ends` and `bases`, as the
+// questions take it; `numbers` says which of the given files each is.
 pub fn lend(
     path: &[u8],
     directories: &[u8],

@@ -137,6 +137,7 @@ fn answer_line(
         &mut bases,
         &mut numbers,
     );
+    // It is always done: `rules` is as long as all given files, and there are as many numbers as files.
     let Lending::Done(lent) = lending else {
         return at;
     };

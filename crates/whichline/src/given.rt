@@ -29,7 +29,7 @@ fn wrong(g: Given) -> Given {
 }
 
 // Puts the rule file that argument `i` names behind the `used` bytes, and answers where it ends. The largest number stands for a
-// file that cannot be read or lent, which is said.
+// file that cannot be read or is too large, which is said.
 fn add_file(i: usize, files: &mut [u8], used: usize) -> usize {
     let mut name = io::buffer();
     let n = os::arg(i, &mut name);
@@ -155,6 +155,11 @@ fn take_file(
     }
 }
 
+// Whether argument `i` is an option that has its place elsewhere.
+fn is_option(i: usize) -> bool {
+    arguments::is(i, b"--fold") || arguments::is(i, b"--in")
+}
+
 // Takes the next of `n` arguments, and what belongs to it.
 fn take_next(
     n: usize,
@@ -185,7 +190,7 @@ fn take_next(
             names,
         );
     }
-    if n - i < 3 {
+    if n - i < 3 || is_option(i + 1) || is_option(i + 2) {
         words::wrong(b"`--in` wants a directory and a rule file");
         return wrong(g);
     }

@@ -10,22 +10,22 @@ fn append_usage(out: &mut [u8]) -> usize {
     let a = append(
         out,
         0,
-        b"whichline: which line of the rule files decided?\n\n    whichline ignore [--fold] RULES.. < LISTING\n",
+        b"whichline: which line of the rule files decided?\n\n    whichline ignore [--fold] RULES.. < LISTING\n    whichline attribute NAME [--fold] RULES.. < LISTING\n\n",
     );
     let b = append(
         out,
         a,
-        b"    whichline attribute NAME [--fold] RULES.. < LISTING\n\nRULES: rule files, lowest precedence first; one that stands below the archive's top as --in DIRECTORY FILE.\n",
+        b"NAME: the attribute; left out, the first rule file would be taken for it.\nRULES: rule files, lowest precedence first; one that stands below the archive's top as --in DIRECTORY FILE. For each path\n",
     );
     let c = append(
         out,
         b,
-        b"For each path only the files above it are asked. At most 256 files, 65,536 bytes each, 262,144 together.\nLISTING: paths from the archive's top, one a line; a last / marks a directory. ",
+        b"only the files above it are asked. At most 256 files, 65,536 bytes each, 262,144 together; above one path 64 files and 65,536 bytes.\nLISTING: paths from the archive's top, one a line; a last / ",
     );
     append(
         out,
         c,
-        b"A BOM or a CR in it is part of a path.\n--fold: ASCII letters match in either case.\n\n",
+        b"marks a directory. A BOM or a CR in it is part of a path.\n--fold: ASCII letters match in either case.\n\n",
     )
 }
 
@@ -39,12 +39,12 @@ fn append_answers(out: &mut [u8], at: usize) -> usize {
     let b = append(
         out,
         a,
-        b"unset, value V, unspecified, nothing; or refused N: reason.\nA field with a control byte, or that begins with a double quote, is quoted as in C.\n",
+        b"unset, value V, unspecified, nothing; or refused N: reason.\nA path, entry, value or file name with a control byte, or that begins with a double quote, is quoted as in C.\n",
     );
     append(
         out,
         b,
-        b"What is wrong with the question itself is said on standard error, and then no path is answered; bin/whichline ends with 2.\n",
+        b"What is wrong with the question itself is said on standard error, and then no path is answered; the status is 2.\nA refused path is an answer: the status is 0.\n",
     )
 }
 
