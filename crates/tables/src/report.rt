@@ -10,7 +10,35 @@ fn number(n: u64) {
     io::print_decimal(STDOUT_FILENO, n);
 }
 
-// An answer other than the row expects.
+// The name of the mode that a flags number asks for.
+fn mode(flags: u64) {
+    if flags == 1 {
+        say(b"path");
+    }
+    if flags == 3 {
+        say(b"path+fold");
+    }
+    if flags == 0 {
+        say(b"plain");
+    }
+    if flags == 2 {
+        say(b"plain+fold");
+    }
+}
+
+// An answer of the matcher other than the row expects; 16 and above is a refusal's code.
+pub fn difference(label: &[u8], flags: u64, expected: u64, got: u64) {
+    say(label);
+    say(b" ");
+    mode(flags);
+    say(b": expected ");
+    number(expected);
+    say(b", got ");
+    number(got);
+    say(b"\n");
+}
+
+// An answer of a question other than the row expects.
 pub fn other_answer(label: &[u8], expected: &[u8], got: &[u8]) {
     say(label);
     say(b": expected ");

@@ -12,51 +12,51 @@ pub enum Outcome {
     Ran { answers: u64, differ: u64 },
 }
 
-// The matcher's answer as a row writes it: 0 or 1, and r for a refusal.
-fn digit(pattern: &[u8], text: &[u8], flags: u64) -> u8 {
-    let code = wildmatch::answer::code_of(wildmatch::answer::wildmatch(pattern, text, flags));
-    if code == 0 {
-        return b'0';
+// The flags numbers of the modes, in the order of the expected answers.
+const FLAGS: [u64; 4] = [1, 3, 0, 2];
+
+fn is_digit(b: u8) -> bool {
+    b == b'0' || b == b'1'
+}
+
+// Whether four bytes are each 0 or 1.
+fn are_digits(field: &[u8]) -> bool
+    requires { ⌜ length (now field) ≡ 4 ⌝ }
+{
+    is_digit(field[0]) && is_digit(field[1]) && is_digit(field[2]) && is_digit(field[3])
+}
+
+fn value(digit: u8) -> u64 {
+    if digit == b'1' { 1 } else { 0 }
+}
+
+fn answer(pattern: &[u8], text: &[u8], flags: u64) -> u64 {
+    wildmatch::answer::code_of(wildmatch::answer::wildmatch(pattern, text, flags)) as u64
+}
+
+// Whether the matcher answers other than expected in one mode; says so if it does.
+fn differs(label: &[u8], pattern: &[u8], text: &[u8], flags: u64, expected: u64) -> bool {
+    let got = answer(pattern, text, flags);
+    if got == expected {
+        return false;
     }
-    if code == 1 {
-        return b'1';
-    }
-    b'r'
+    report::difference(label, flags, expected, got);
+    true
 }
 
 // How many of the four answers differ.
-fn count_differing(expected: &[u8], got: &[u8; 4]) -> u64
+fn count_differing(label: &[u8], pattern: &[u8], text: &[u8], expected: &[u8]) -> u64
     requires { ⌜ length (now expected) ≡ 4 ⌝ }
 {
     let mut n: u64 = 0;
     let mut i = 0;
     while i < 4 {
-        if got[i] != expected[i] {
+        if differs(label, pattern, text, FLAGS[i], value(expected[i])) {
             n += 1;
         }
         i += 1;
     }
     n
-}
-
-// Compares the answers in the four modes, in the data's order, with the expected ones; says so where they differ.
-fn compare(label: &[u8], pattern: &[u8], text: &[u8], expected: &[u8]) -> Outcome
-    requires { ⌜ length (now expected) ≡ 4 ⌝ }
-{
-    let got = [
-        digit(pattern, text, 1),
-        digit(pattern, text, 3),
-        digit(pattern, text, 0),
-        digit(pattern, text, 2),
-    ];
-    let differ = count_differing(expected, &got);
-    if differ > 0 {
-        report::other_answer(label, expected, &got);
-    }
-    Outcome::Ran {
-        answers: 4,
-        differ: differ,
-    }
 }
 
 // Runs a row on the first `p` and `t` bytes of the two buffers, which its pattern and its text wrote.
@@ -76,11 +76,18 @@ fn run_decoded(
     if t > text.len() {
         return Outcome::Malformed;
     }
-    compare(label, &pattern[0..p], &text[0..t], expected)
+    let differ = count_differing(label, &pattern[0..p], &text[0..t], expected);
+    Outcome::Ran {
+        answers: 4,
+        differ: differ,
+    }
 }
 
 fn run_fields(label: &[u8], pattern: &[u8], text: &[u8], expected: &[u8]) -> Outcome {
     if expected.len() != 4 {
+        return Outcome::Malformed;
+    }
+    if !are_digits(expected) {
         return Outcome::Malformed;
     }
     let mut pattern_bytes = io::buffer();
