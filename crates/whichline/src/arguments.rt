@@ -18,6 +18,11 @@ pub fn is(i: usize, bytes: &[u8]) -> bool {
     check::same(&word[..n], bytes)
 }
 
+// Whether argument `i` is an option, which is no name, directory or file where one of these is wanted.
+pub fn is_option(i: usize) -> bool {
+    is(i, b"--fold") || is(i, b"--in")
+}
+
 // Whether argument `i` begins like an option; if it does, says that it is none.
 pub fn is_unknown(i: usize) -> bool {
     let mut word = io::buffer();
@@ -56,7 +61,7 @@ pub fn what_is_asked(name: &mut [u8]) -> Asked {
     if !is(1, b"attribute") {
         return Asked::Wrong;
     }
-    if is(2, b"--fold") || is(2, b"--in") {
+    if is_option(2) {
         return Asked::Wrong;
     }
     let n = os::arg(2, name);

@@ -155,11 +155,6 @@ fn take_file(
     }
 }
 
-// Whether argument `i` is an option that has its place elsewhere.
-fn is_option(i: usize) -> bool {
-    arguments::is(i, b"--fold") || arguments::is(i, b"--in")
-}
-
 // Takes the next of `n` arguments, and what belongs to it.
 fn take_next(
     n: usize,
@@ -190,7 +185,7 @@ fn take_next(
             names,
         );
     }
-    if n - i < 3 || is_option(i + 1) || is_option(i + 2) {
+    if n - i < 3 || arguments::is_option(i + 1) || arguments::is_option(i + 2) {
         words::wrong(b"`--in` wants a directory and a rule file");
         return wrong(g);
     }
