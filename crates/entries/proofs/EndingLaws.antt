@@ -8,7 +8,7 @@ use lib.Dec.{eqb}
 use lib.ListN.{length, getD, take}
 use borrow.Author.Tests.{eqb-false, ne-eqb, not-true}
 use Rattle.classes.specs.Letters.{folded}
-use Rattle.wildmatch.proofs.EndLaws.{Plain, EndsIn, EndTaken, ends-tail, end-taken}
+use Rattle.wildmatch.proofs.EndLaws.{Plain, EndsIn, EndTaken, end-taken}
 use Rattle.wildmatch.proofs.FrontLaws.{FirstTaken, first-taken}
 use Rattle.wildmatch.proofs.Parts.{false-if-not, not-both}
 use Rattle.wildmatch.specs.Outcomes.{isLiteral}
@@ -43,23 +43,12 @@ taken-end fold c (x ∷ t) h = last-taken fold c (x ∷ t) (length (x ∷ t) - 1
 
 -- The pattern's end.
 
-ends-one : (c : ℕ) (p : List ℕ) → length p ≡ 1 → getD p (length p - 1) 0 ≡ c → EndsIn c p
-ends-one c [] l e = absurd (omega arith)
-ends-one c (x ∷ []) l e = e
-ends-one c (x ∷ y ∷ p) l e = absurd (omega arith)
-
-ends-at : (c : ℕ) (p : List ℕ) (n : ℕ) → length p ≡ suc (suc n) → (getD p n 0 ≡ 92 → ⊥) → getD p (suc n) 0 ≡ c → EndsIn c p
-ends-at c [] n l b e = absurd (omega arith)
-ends-at c (x ∷ []) n l b e = absurd (omega arith)
-ends-at c (x ∷ y ∷ []) zero l b e = (b, e)
-ends-at c (x ∷ y ∷ []) (suc n) l b e = absurd (omega arith)
-ends-at c (x ∷ y ∷ z ∷ p) zero l b e = absurd (omega arith)
-ends-at c (x ∷ y ∷ z ∷ p) (suc n) l b e = ends-at c (y ∷ z ∷ p) n (omega arith) b e
-
-ends-two : (c : ℕ) (p : List ℕ) → (length p ≡ 0 → ⊥) → (length p ≡ 1 → ⊥) → (getD p (length p - 2) 0 ≡ 92 → ⊥) → getD p (length p - 1) 0 ≡ c → EndsIn c p
-ends-two c p n o b e =
-    let k : length p - 1 ≡ suc (length p - 2) = omega arith in
-    ends-at c p (length p - 2) (omega arith) b (ap (λ (i : ℕ). getD p i 0) (sym k) ∙ e)
+ends-at : (c : ℕ) (p : List ℕ) (n : ℕ) → length p ≡ suc n → getD p n 0 ≡ c → EndsIn c p
+ends-at c [] n l e = absurd (omega arith)
+ends-at c (x ∷ []) zero l e = e
+ends-at c (x ∷ []) (suc n) l e = absurd (omega arith)
+ends-at c (x ∷ y ∷ p) zero l e = absurd (omega arith)
+ends-at c (x ∷ y ∷ p) (suc n) l e = ends-at c (y ∷ p) n (omega arith) e
 
 -- What it excludes.
 
@@ -93,16 +82,14 @@ module _ (fold : Bool) (rest component : List ℕ) where
       excluded (x ∷ y ∷ p) h = go (eqb x 47) (has 47 (x ∷ y ∷ p))
         where
           go : (b path : Bool) → not (isEmpty (cond b (y ∷ p) (x ∷ y ∷ p))) && matchesTest (record { path = path; fold = fold }) (cond b (y ∷ p) (x ∷ y ∷ p)) (cond path rest component) ≡ false
-          go true path = no-text path (y ∷ p) (ends-tail c x y p h)
+          go true path = no-text path (y ∷ p) h
           go false path = no-text path (x ∷ y ∷ p) h
 
-      pub excludes-one : (p : List ℕ) → length p ≡ 1 → getD p (length p - 1) 0 ≡ c → Excludes fold rest component p true
-      unfolding Excludes
-      excludes-one p l e w = excluded p (ends-one c p l e)
-
-      pub excludes-two : (p : List ℕ) → (length p ≡ 0 → ⊥) → (length p ≡ 1 → ⊥) → getD p (length p - 1) 0 ≡ c → Excludes fold rest component p (not (eqb (getD p (length p - 2) 0) 92))
-      unfolding Excludes
-      excludes-two p l o e w = excluded p (ends-two c p l o (eqb-false _ _ (not-true _ w)) e)
+  pub excludes-last : (p : List ℕ) (c : ℕ) (r : Bool) → (length p ≡ 0 → ⊥) → getD p (length p - 1) 0 ≡ c → endTaken fold c rest ≡ false → endTaken fold c component ≡ false
+      → (c ≡ 42 → ⊥) → (c ≡ 47 → ⊥) → (c ≡ 63 → ⊥) → (c ≡ 92 → ⊥) → r ≡ not (eqb c 93) → Excludes fold rest component p r
+  unfolding Excludes
+  excludes-last p c r l e tr tc star slash any escape q w =
+      excluded c (star, slash, any, escape, eqb-false c 93 (not-true (eqb c 93) (sym q ∙ w))) tr tc p (ends-at c p (length p - 1) (omega (arith, l)) e)
 
 -- The first bytes.
 

@@ -19,8 +19,8 @@ pub fn ends_in(c: u8, text: &[u8], fold: bool) -> bool
     x == c
 }
 
-// Whether the pattern matches neither text, since it ends in a literal that accepts the last byte of neither. No `*`, `?` or `]` at its
-// end is one, nor is a byte after `\`; and a `/` may take nothing.
+// Whether the pattern matches neither text, since it ends in a literal that accepts the last byte of neither. At its end any byte is a
+// literal, with a `\` before it or not, but `*`, `?`, `]` and `\`, which need not be one, and `/`, which may take nothing.
 pub fn cannot_match(pattern: &[u8], rest: &[u8], component: &[u8], fold: bool) -> bool
     ensures { λ r. ⌜ Excludes fold (now (rest .entry)) (now (component .entry)) (now (pattern .entry)) r ⌝ }
 {
@@ -47,11 +47,5 @@ pub fn cannot_match(pattern: &[u8], rest: &[u8], component: &[u8], fold: bool) -
     if c == 92 {
         return false;
     }
-    if c == 93 {
-        return false;
-    }
-    if n == 1 {
-        return true;
-    }
-    pattern[n - 2] != 92
+    c != 93
 }

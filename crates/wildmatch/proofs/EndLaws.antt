@@ -1,6 +1,6 @@
 -- A pattern that ends in a byte which can only be a literal there matches no text but one that ends in a byte which this literal accepts.
 use mathlib.Core.Path.{_≡_, refl, sym, ap, subst, _∙_}
-use mathlib.Core.Logic.{⊎-elim}
+use mathlib.Core.Logic.{_⊎_, inl, inr, ⊎-elim}
 use mathlib.Core.Bool.{Bool, true, false, cond}
 use mathlib.Core.List.{List, [], _∷_, _++_}
 use mathlib.Core.Option.{Option, none, some}
@@ -20,16 +20,15 @@ use Rattle.wildmatch.specs.Test.{matchesTest}
 use Rattle.wildmatch.specs.Meaning.{test-decides}
 use Rattle.wildmatch.specs.declared.Mode.{Mode}
 
--- with no `\` before it and nothing after it, c is a literal: a run ends in `*`, a class in `]`. A `/` may vanish
+-- with nothing after it, c is a literal, whether a `\` stands before it or not: a run ends in `*`, a class in `]`. A `/` may vanish
 abbrev pub Plain : ℕ → Type 0
 Plain c = (c ≡ 42 → ⊥) × (c ≡ 47 → ⊥) × (c ≡ 63 → ⊥) × (c ≡ 92 → ⊥) × (c ≡ 93 → ⊥)
 
--- the last byte is c, with no `\` before it
+-- the last byte is c
 abbrev pub EndsIn : ℕ → List ℕ → Type 0
 EndsIn c [] = ⊥
 EndsIn c (x ∷ []) = x ≡ c
-EndsIn c (x ∷ y ∷ []) = (x ≡ 92 → ⊥) × (y ≡ c)
-EndsIn c (x ∷ y ∷ z ∷ p) = EndsIn c (y ∷ z ∷ p)
+EndsIn c (x ∷ y ∷ p) = EndsIn c (y ∷ p)
 
 -- the last byte is one that the literal c accepts
 abbrev pub EndTaken : Bool → ℕ → List ℕ → Type 0
@@ -48,21 +47,24 @@ abbrev LastOf : ℕ → Option (List Item) → Type 0
 LastOf c none = Unit {0}
 LastOf c (some its) = LastIs c its
 
--- an item that does not reach the end of p
-abbrev Before : List ℕ → First → Type 0
-Before p broken = Unit {0}
-Before p (item it n) = n < length p
+-- an item that does not reach the end of p, or is the literal c and does
+abbrev Fits : ℕ → List ℕ → First → Type 0
+Fits c p broken = Unit {0}
+Fits c p (item it n) = (n < length p) ⊎ ((n ≡ length p) × (it ≡ literal c))
 
-pub ends-tail : (c x y : ℕ) (p : List ℕ) → EndsIn c (x ∷ y ∷ p) → EndsIn c (y ∷ p)
-ends-tail c x y [] h = h .1
-ends-tail c x y (z ∷ p) h = h
+-- no item follows one that reaches the end
+items-passed : (p : List ℕ) (k : ℕ) (after : Bool) → k ≡ length p → some [] ≡ itemsFrom p k after
+unfolding itemsFrom
+items-passed [] k after e = refl
+items-passed (x ∷ p) zero after e = absurd (omega arith)
+items-passed (x ∷ p) (suc k) after e = items-passed p k (eqb x 47) (omega arith)
 
 ends-last : (c : ℕ) (p : List ℕ) (n : ℕ) → length p ≡ suc n → EndsIn c p → getD p n 0 ≡ c
 ends-last c [] n l h = absurd h
 ends-last c (x ∷ []) zero l h = h
 ends-last c (x ∷ []) (suc n) l h = absurd (omega arith)
 ends-last c (x ∷ y ∷ p) zero l h = absurd (omega arith)
-ends-last c (x ∷ y ∷ p) (suc n) l h = ends-last c (y ∷ p) n (omega arith) (ends-tail c x y p h)
+ends-last c (x ∷ y ∷ p) (suc n) l h = ends-last c (y ∷ p) n (omega arith) h
 
 last-more : (c : ℕ) (it : Item) (o : Option (List Item)) → LastOf c o → LastOf c (andItem it o)
 last-more c it none h = tt
@@ -74,32 +76,32 @@ module _ (c : ℕ) (plain : Plain c) where
   unfolding stars
   stars-before [] h = absurd h
   stars-before (x ∷ []) h = rw (ne-eqb x 42 (λ e. plain .0 (sym h ∙ e))) (omega arith)
-  stars-before (x ∷ y ∷ p) h = go (eqb x 42) (stars-before (y ∷ p) (ends-tail c x y p h))
+  stars-before (x ∷ y ∷ p) h = go (eqb x 42) (stars-before (y ∷ p) h)
     where
       go : (b : Bool) → stars (y ∷ p) < length (y ∷ p) → cond b (suc (stars (y ∷ p))) 0 < suc (length (y ∷ p))
       go true l = omega arith
       go false l = omega arith
 
-  class-before : (x : ℕ) (p : List ℕ) (o : Option Class) → readClass p ≡ o → EndsIn c p → Before (x ∷ p) (readBracket o)
+  class-before : (x : ℕ) (p : List ℕ) (o : Option Class) → readClass p ≡ o → EndsIn c p → Fits c (x ∷ p) (readBracket o)
   unfolding readBracket
   class-before x p none e h = tt
   class-before x p (some k) e h =
       let s = class-size p k e in
       ⊎-elim (λ q. let l : length p ≡ suc (k .size - 1) = omega (arith, s .0) in absurd (plain .4 (sym (ends-last c p (k .size - 1) l h) ∙ s .2)))
-      (λ q. omega arith) (eq-or-lt-of-le (s .1))
+      (λ q. inl (omega arith)) (eq-or-lt-of-le (s .1))
 
-  escaped-before : (x y : ℕ) (p : List ℕ) → x ≡ 92 → EndsIn c (x ∷ y ∷ p) → Before (x ∷ y ∷ p) (readEscaped (y ∷ p))
-  escaped-before x y [] e h = absurd (h .0 e)
-  escaped-before x y (z ∷ p) e h = omega arith
+  escaped-before : (x y : ℕ) (p : List ℕ) → EndsIn c (y ∷ p) → Fits c (x ∷ y ∷ p) (readEscaped (y ∷ p))
+  escaped-before x y [] h = inr (refl, ap literal h)
+  escaped-before x y (z ∷ p) h = inl (omega arith)
 
-  item-before : (after : Bool) (x y : ℕ) (p : List ℕ) → EndsIn c (x ∷ y ∷ p) → Before (x ∷ y ∷ p) (readItem after x (y ∷ p))
+  item-before : (after : Bool) (x y : ℕ) (p : List ℕ) → EndsIn c (y ∷ p) → Fits c (x ∷ y ∷ p) (readItem after x (y ∷ p))
   unfolding readItem readRun
   item-before after x y p h =
-      by-cases (Before (x ∷ y ∷ p)) (eqb x 92) _ _ (λ e. escaped-before x y p (eqb-true x 92 e) h)
-      (λ e. by-cases (Before (x ∷ y ∷ p)) (eqb x 63) _ _ (λ e. omega arith)
-      (λ e. by-cases (Before (x ∷ y ∷ p)) (eqb x 42) _ _ (λ e. stars-before (x ∷ y ∷ p) h)
-      (λ e. by-cases (Before (x ∷ y ∷ p)) (eqb x 91) _ _ (λ e. class-before x (y ∷ p) (readClass (y ∷ p)) refl (ends-tail c x y p h))
-      (λ e. omega arith))))
+      by-cases (Fits c (x ∷ y ∷ p)) (eqb x 92) _ _ (λ e. escaped-before x y p h)
+      (λ e. by-cases (Fits c (x ∷ y ∷ p)) (eqb x 63) _ _ (λ e. inl (omega arith))
+      (λ e. by-cases (Fits c (x ∷ y ∷ p)) (eqb x 42) _ _ (λ e. inl (stars-before (x ∷ y ∷ p) h))
+      (λ e. by-cases (Fits c (x ∷ y ∷ p)) (eqb x 91) _ _ (λ e. class-before x (y ∷ p) (readClass (y ∷ p)) refl h)
+      (λ e. inl (omega arith)))))
 
   one-last : (after : Bool) (x : ℕ) → x ≡ c → LastOf c (itemsAfter (readItem after x []) (λ n. some []))
   unfolding readItem readBracket readClass members
@@ -116,14 +118,15 @@ module _ (c : ℕ) (plain : Plain c) where
   last-literal [] k after l h = absurd h
   last-literal (x ∷ []) zero after l h = one-last after x h
   last-literal (x ∷ []) (suc k) after l h = absurd (omega arith)
-  last-literal (x ∷ y ∷ p) zero after l h = go (readItem after x (y ∷ p)) (item-before after x y p h) (λ k l. last-literal (y ∷ p) k (eqb x 47) l (ends-tail c x y p h))
+  last-literal (x ∷ y ∷ p) zero after l h = go (readItem after x (y ∷ p)) (item-before after x y p h) (λ k l. last-literal (y ∷ p) k (eqb x 47) l h)
     where
-      go : (f : First) → Before (x ∷ y ∷ p) f → ((k : ℕ) → k < length (y ∷ p) → LastOf c (itemsFrom (y ∷ p) k (eqb x 47)))
+      go : (f : First) → Fits c (x ∷ y ∷ p) f → ((k : ℕ) → k < length (y ∷ p) → LastOf c (itemsFrom (y ∷ p) k (eqb x 47)))
           → LastOf c (itemsAfter f (λ n. itemsFrom (y ∷ p) n (eqb x 47)))
       go broken b r = tt
       go (item it zero) b r = last-more c it (itemsFrom (y ∷ p) 0 (eqb x 47)) (r 0 (omega arith))
-      go (item it (suc n)) b r = last-more c it (itemsFrom (y ∷ p) n (eqb x 47)) (r n (omega arith))
-  last-literal (x ∷ y ∷ p) (suc k) after l h = last-literal (y ∷ p) k (eqb x 47) (omega arith) (ends-tail c x y p h)
+      go (item it (suc n)) (inl b) r = last-more c it (itemsFrom (y ∷ p) n (eqb x 47)) (r n (omega arith))
+      go (item it (suc n)) (inr b) r = subst (λ (o : Option (List Item)). LastOf c (andItem it o)) (items-passed (y ∷ p) n (eqb x 47) (omega (arith, b .0))) (b .1)
+  last-literal (x ∷ y ∷ p) (suc k) after l h = last-literal (y ∷ p) k (eqb x 47) (omega arith) h
 
   module _ (m : Mode) where
     taken-more : (w u : List ℕ) → EndTaken (m .fold) c u → EndTaken (m .fold) c (w ++ u)

@@ -1,6 +1,6 @@
 -- `entries::ending::cannot_match` meets its contract: it says yes only where every test before has failed.
 use mathlib.Core.Path.{refl, sym, _∙_}
-use Rattle.entries.proofs.EndingLaws.{excludes-none, excludes-one, excludes-two}
+use Rattle.entries.proofs.EndingLaws.{excludes-none, excludes-last}
 use borrow.Author.Needs.{needs}
 use Rattle.entries.proofs.ending.cannot_match.Statement.{statement}
 use Rattle.entries.proofs.ending.cannot_match.Tie as tie
@@ -39,19 +39,11 @@ returns-7 : tie.Need-returns-7
 returns-7 c = excludes-none _ _ _ _
 
 returns-8 : tie.Need-returns-8
-returns-8 c = excludes-none _ _ _ _
-
-returns-9 : tie.Need-returns-9
-returns-9 c = let k = c .before in excludes-one _ _ _ _ (k .before .before .before .before .if4 .left, k .before .before .before .if5 .left, k .before .before .if6 .left, k .before .if7 .left, k .if8 .left) (sym (k .before .before .before .before .before .before .before .before .ends-in .ensures) ∙ k .before .before .before .before .before .before .before .if2 .left) (sym (k .before .before .before .before .before .before .ends-in2 .ensures) ∙ k .before .before .before .before .before .if3 .left) _ (c .if9 .taken) refl
-
-sub-result : tie.Need-sub-result
-sub-result c = search needs
-
-shared-slice-read-result : tie.Need-shared-slice-read-result
-shared-slice-read-result c = search needs
-
-returns-10 : tie.Need-returns-10
-returns-10 c = let k = c .before .before in excludes-two _ _ _ _ (k .before .before .before .before .if4 .left, k .before .before .before .if5 .left, k .before .before .if6 .left, k .before .if7 .left, k .if8 .left) (sym (k .before .before .before .before .before .before .before .before .ends-in .ensures) ∙ k .before .before .before .before .before .before .before .if2 .left) (sym (k .before .before .before .before .before .before .ends-in2 .ensures) ∙ k .before .before .before .before .before .if3 .left) _ (k .before .before .before .before .before .before .before .before .before .before .if1 .left) (c .before .if9 .left) refl
+returns-8 c =
+    let component = c .before .before .before .before in
+    let rest = component .before .before in
+    excludes-last _ _ _ _ _ _ (rest .before .before .before .if1 .left) refl (sym (rest .before .ends-in .ensures) ∙ rest .if2 .left) (sym (component .before .ends-in2 .ensures) ∙ component .if3 .left)
+    (c .before .before .before .if4 .left) (c .before .before .if5 .left) (c .before .if6 .left) (c .if7 .left) refl
 
 pub cannot-match-spec : {M : Type 1} → statement M
 cannot-match-spec =
@@ -68,8 +60,4 @@ cannot-match-spec =
     returns-5
     returns-6
     returns-7
-    returns-8
-    returns-9
-    sub-result
-    shared-slice-read-result
-    returns-10)
+    returns-8)
