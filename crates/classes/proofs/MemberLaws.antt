@@ -11,9 +11,7 @@ use lib.ListN.{length, getD, take, drop, length-drop, drop-of-length-le}
 use lib.Seq.{take-all, drop-cons}
 use borrow.Author.Tests.{eq-eqb, ne-eqb, le-leb, lt-leb, lt-ltb, le-ltb}
 use Rattle.classes.specs.Names.{whichName}
-use Rattle.classes.specs.Members.{single, untilClose, nameAt, bracketAt, nextMember}
-use Rattle.classes.specs.declared.members.Next.{Next}
-use Rattle.classes.specs.declared.members.Next.the-variants.{Close, Broken, Byte, Range, Name, Plain}
+use Rattle.classes.specs.Members.{byte, range, name, Step, close, broken, member, single, untilClose, nameAt, bracketAt, nextMember}
 
 -- the part `&q[n..]`
 abbrev pub from : ℕ → List ℕ → List ℕ
@@ -24,36 +22,36 @@ from-drop n q = take-all (length q - n) (drop n q) (simp length-drop (le-refl _)
 
 -- The single member b of n bytes, or the range that it begins.
 
-cond-same : (t : Bool) (r : Next) → r ≡ cond t r r
+cond-same : (t : Bool) (r : Step) → r ≡ cond t r r
 cond-same true r = refl
 cond-same false r = refl
 
 module _ (b n : ℕ) where
-  pub single-short : (q : List ℕ) → length q < 2 → Byte b n ≡ single b n q
+  pub single-short : (q : List ℕ) → length q < 2 → member (byte b) n ≡ single b n q
   unfolding single
   single-short [] h = refl
   single-short (y ∷ []) h = cond-same (eqb y 45) _
   single-short (y ∷ z ∷ q) h = absurd (omega arith)
 
-  pub single-plain : (q : List ℕ) → 2 ≤ length q → (getD q 0 0 ≡ 45 → ⊥) → Byte b n ≡ single b n q
+  pub single-plain : (q : List ℕ) → 2 ≤ length q → (getD q 0 0 ≡ 45 → ⊥) → member (byte b) n ≡ single b n q
   unfolding single
   single-plain [] h d = refl
   single-plain (y ∷ q) h d = rw (ne-eqb y 45 d) refl
 
-  pub single-close : (q : List ℕ) → 2 ≤ length q → getD q 0 0 ≡ 45 → getD q 1 0 ≡ 93 → Byte b n ≡ single b n q
+  pub single-close : (q : List ℕ) → 2 ≤ length q → getD q 0 0 ≡ 45 → getD q 1 0 ≡ 93 → member (byte b) n ≡ single b n q
   unfolding single
   single-close [] h d e = refl
   single-close (y ∷ []) h d e = cond-same (eqb y 45) _
   single-close (y ∷ z ∷ q) h d e = rw (eq-eqb y 45 d, eq-eqb z 93 e) refl
 
   pub single-range : (q : List ℕ) → 2 ≤ length q → getD q 0 0 ≡ 45 → (getD q 1 0 ≡ 93 → ⊥) → (getD q 1 0 ≡ 92 → ⊥)
-      → Range b (getD q 1 0) (n + 2) ≡ single b n q
+      → member (range b (getD q 1 0)) (n + 2) ≡ single b n q
   unfolding single
   single-range [] h d e f = absurd (omega arith)
   single-range (y ∷ []) h d e f = absurd (omega arith)
   single-range (y ∷ z ∷ q) h d e f = rw (eq-eqb y 45 d, ne-eqb z 93 e, ne-eqb z 92 f) refl
 
-  pub single-open : (q : List ℕ) → 2 ≤ length q → getD q 0 0 ≡ 45 → getD q 1 0 ≡ 92 → length q < 3 → Broken ≡ single b n q
+  pub single-open : (q : List ℕ) → 2 ≤ length q → getD q 0 0 ≡ 45 → getD q 1 0 ≡ 92 → length q < 3 → broken ≡ single b n q
   unfolding single
   single-open [] h d e s = absurd (omega arith)
   single-open (y ∷ []) h d e s = absurd (omega arith)
@@ -61,7 +59,7 @@ module _ (b n : ℕ) where
   single-open (y ∷ z ∷ w ∷ q) h d e s = absurd (omega arith)
 
   pub single-escaped : (q : List ℕ) → getD q 0 0 ≡ 45 → getD q 1 0 ≡ 92 → 3 ≤ length q
-      → Range b (getD q 2 0) (n + 3) ≡ single b n q
+      → member (range b (getD q 2 0)) (n + 3) ≡ single b n q
   unfolding single
   single-escaped [] d e s = absurd (omega arith)
   single-escaped (y ∷ []) d e s = absurd (omega arith)
@@ -92,40 +90,40 @@ module _ (q : List ℕ) (i : ℕ) (s : NoClose q i) where
 -- After `[:`, with n bytes before the next `]`.
 
 module _ (q : List ℕ) (n : ℕ) (e : n ≡ untilClose q) where
-  pub name-open : length q ≤ n → Broken ≡ nameAt q
+  pub name-open : length q ≤ n → broken ≡ nameAt q
   unfolding nameAt
   name-open h = rw (← e, le-leb _ _ h) refl
 
-  pub name-empty : n < length q → n ≡ 0 → Plain n ≡ nameAt q
+  pub name-empty : n < length q → n ≡ 0 → member (byte 91) 1 ≡ nameAt q
   unfolding nameAt
   name-empty h z = rw (← e, lt-leb _ _ h, eq-eqb n 0 z) refl
 
-  pub name-plain : n < length q → (n ≡ 0 → ⊥) → (getD q (n - 1) 0 ≡ 58 → ⊥) → Plain n ≡ nameAt q
+  pub name-plain : n < length q → (n ≡ 0 → ⊥) → (getD q (n - 1) 0 ≡ 58 → ⊥) → member (byte 91) 1 ≡ nameAt q
   unfolding nameAt
   name-plain h z d = rw (← e, lt-leb _ _ h, ne-eqb n 0 z, ne-eqb _ 58 d) refl
 
   module _ (k : ℕ) (h : n < length q) (z : n ≡ 0 → ⊥) (colon : getD q (n - 1) 0 ≡ 58) (f : k ≡ whichName (take (n - 1) q)) where
-    pub name-unknown : 12 ≤ k → Broken ≡ nameAt q
+    pub name-unknown : 12 ≤ k → broken ≡ nameAt q
     unfolding nameAt
     name-unknown u = rw (← e, lt-leb _ _ h, ne-eqb n 0 z, eq-eqb _ 58 colon, ← f, le-ltb _ _ u) refl
 
-    pub name-found : k < 12 → Name k (n + 3) ≡ nameAt q
+    pub name-found : k < 12 → member (name k) (n + 3) ≡ nameAt q
     unfolding nameAt
     name-found u = rw (← e, lt-leb _ _ h, ne-eqb n 0 z, eq-eqb _ 58 colon, ← f, lt-ltb _ _ u) refl
 
 -- After `[`.
 
-pub bracket-end : (q : List ℕ) → length q ≡ 0 → Byte 91 1 ≡ bracketAt q
+pub bracket-end : (q : List ℕ) → length q ≡ 0 → member (byte 91) 1 ≡ bracketAt q
 unfolding bracketAt
 bracket-end [] h = refl
 bracket-end (y ∷ q) h = absurd (omega arith)
 
-pub bracket-name : (q : List ℕ) (r : Next) → (length q ≡ 0 → ⊥) → getD q 0 0 ≡ 58 → r ≡ nameAt (from 1 q) → r ≡ bracketAt q
+pub bracket-name : (q : List ℕ) (r : Step) → (length q ≡ 0 → ⊥) → getD q 0 0 ≡ 58 → r ≡ nameAt (from 1 q) → r ≡ bracketAt q
 unfolding bracketAt
 bracket-name [] r h e s = absurd (h refl)
 bracket-name (y ∷ q) r h e s = rw (eq-eqb y 58 e) (s ∙ ap nameAt (from-drop 1 (y ∷ q)))
 
-pub bracket-single : (q : List ℕ) (r : Next) → (length q ≡ 0 → ⊥) → (getD q 0 0 ≡ 58 → ⊥) → r ≡ single 91 1 q → r ≡ bracketAt q
+pub bracket-single : (q : List ℕ) (r : Step) → (length q ≡ 0 → ⊥) → (getD q 0 0 ≡ 58 → ⊥) → r ≡ single 91 1 q → r ≡ bracketAt q
 unfolding bracketAt
 bracket-single [] r h d s = absurd (h refl)
 bracket-single (y ∷ q) r h d s = rw (ne-eqb y 58 d) s
@@ -145,36 +143,36 @@ unfolding NotClose
 other-goes-on first x d = rw (ne-eqb x 93 d) refl
 
 module _ (first : Bool) where
-  pub next-end : (q : List ℕ) → length q ≡ 0 → Broken ≡ nextMember first q
+  pub next-end : (q : List ℕ) → length q ≡ 0 → broken ≡ nextMember first q
   unfolding nextMember
   next-end [] h = refl
   next-end (x ∷ q) h = absurd (omega arith)
 
-  pub next-close : (q : List ℕ) → (length q ≡ 0 → ⊥) → getD q 0 0 ≡ 93 → first ≡ false → Close ≡ nextMember first q
+  pub next-close : (q : List ℕ) → (length q ≡ 0 → ⊥) → getD q 0 0 ≡ 93 → first ≡ false → close ≡ nextMember first q
   unfolding nextMember
   next-close [] h e f = absurd (h refl)
   next-close (x ∷ q) h e f = rw (eq-eqb x 93 e, f) refl
 
-  pub next-open : (q : List ℕ) → (length q ≡ 0 → ⊥) → NotClose first (getD q 0 0) → getD q 0 0 ≡ 92 → length q < 2 → Broken ≡ nextMember first q
+  pub next-open : (q : List ℕ) → (length q ≡ 0 → ⊥) → NotClose first (getD q 0 0) → getD q 0 0 ≡ 92 → length q < 2 → broken ≡ nextMember first q
   unfolding nextMember NotClose
   next-open [] h t e s = absurd (h refl)
   next-open (x ∷ []) h t e s = rw (t, eq-eqb x 92 e) refl
   next-open (x ∷ y ∷ q) h t e s = absurd (omega arith)
 
-  pub next-escaped : (q : List ℕ) (r : Next) → NotClose first (getD q 0 0) → getD q 0 0 ≡ 92 → 2 ≤ length q
+  pub next-escaped : (q : List ℕ) (r : Step) → NotClose first (getD q 0 0) → getD q 0 0 ≡ 92 → 2 ≤ length q
       → r ≡ single (getD q 1 0) 2 (from 2 q) → r ≡ nextMember first q
   unfolding nextMember NotClose
   next-escaped [] r t e h s = absurd (omega arith)
   next-escaped (x ∷ []) r t e h s = absurd (omega arith)
   next-escaped (x ∷ y ∷ q) r t e h s = rw (t, eq-eqb x 92 e) (s ∙ ap (single y 2) (from-drop 2 (x ∷ y ∷ q)))
 
-  pub next-bracket : (q : List ℕ) (r : Next) → (length q ≡ 0 → ⊥) → NotClose first (getD q 0 0) → (getD q 0 0 ≡ 92 → ⊥) → getD q 0 0 ≡ 91
+  pub next-bracket : (q : List ℕ) (r : Step) → (length q ≡ 0 → ⊥) → NotClose first (getD q 0 0) → (getD q 0 0 ≡ 92 → ⊥) → getD q 0 0 ≡ 91
       → r ≡ bracketAt (from 1 q) → r ≡ nextMember first q
   unfolding nextMember NotClose
   next-bracket [] r h t d e s = absurd (h refl)
   next-bracket (x ∷ q) r h t d e s = rw (t, ne-eqb x 92 d, eq-eqb x 91 e) (s ∙ ap bracketAt (from-drop 1 (x ∷ q)))
 
-  pub next-single : (q : List ℕ) (r : Next) → (length q ≡ 0 → ⊥) → NotClose first (getD q 0 0) → (getD q 0 0 ≡ 92 → ⊥) → (getD q 0 0 ≡ 91 → ⊥)
+  pub next-single : (q : List ℕ) (r : Step) → (length q ≡ 0 → ⊥) → NotClose first (getD q 0 0) → (getD q 0 0 ≡ 92 → ⊥) → (getD q 0 0 ≡ 91 → ⊥)
       → r ≡ single (getD q 0 0) 1 (from 1 q) → r ≡ nextMember first q
   unfolding nextMember NotClose
   next-single [] r h t d e s = absurd (h refl)

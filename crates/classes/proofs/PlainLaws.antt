@@ -1,20 +1,17 @@
 -- Where a `[:` begins a plain member, each later one before the same `]` does too.
-use mathlib.Core.Path.{_≡_, refl, sym, ap, subst, _∙_}
-use mathlib.Core.Bool.{Bool, true, false, cond, false≢true}
+use mathlib.Core.Path.{_≡_, refl, sym, ap, _∙_}
+use mathlib.Core.Bool.{Bool, true, false, cond}
 use mathlib.Core.List.{List, [], _∷_}
 use Prim.Native.Nat.{ℕ, zero, suc, _+_, _-_, _≤_, _<_}
-use native.Mathlib.Numerals.{add-one}
+use native.Mathlib.Numerals.{add-one, add-two}
 use native.Mathlib.Omega.{arith}
 use lib.Dec.{eqb}
 use lib.ListN.{length, getD, drop, length-drop}
 use lib.Seq.{drop-cons, drop-drop, getD-drop}
-use borrow.Author.Tests.{eq-eqb, ne-eqb, eqb-true, eqb-false}
-use Rattle.classes.proofs.MemberLaws.{name-empty, name-plain}
-use Rattle.classes.proofs.SizeLaws.{Within, next-within}
-use Rattle.classes.specs.Members.{untilClose, noName, nameAt, bracketAt, nextMember}
+use borrow.Author.Tests.{eqb-true, eqb-false}
+use Rattle.classes.proofs.MemberLaws.{from, from-drop, name-empty, name-plain}
+use Rattle.classes.specs.Members.{byte, member, untilClose, nameAt, bracketAt, nextMember}
 use Rattle.classes.specs.Scan.{PlainTo}
-use Rattle.classes.specs.declared.members.Next.{Next}
-use Rattle.classes.specs.declared.members.Next.the-variants.{Plain}
 
 close-step : (t : Bool) (d u v : ℕ) → (d ≤ u → v ≡ u - d) → suc d ≤ cond t 0 (suc u) → v ≡ cond t 0 (suc u) - suc d
 close-step true d u v f h = absurd (omega arith)
@@ -27,67 +24,77 @@ close-drop zero q h = omega arith
 close-drop (suc d) [] h = absurd (omega arith)
 close-drop (suc d) (y ∷ q) h = close-step (eqb y 93) d (untilClose q) _ (close-drop d q) h
 
--- no name stands after a `[:`, where q is what follows it and n bytes stand before the next `]`
-module _ (q : List ℕ) (n : ℕ) (e : n ≡ untilClose q) (l : n < length q) (no : noName q ≡ true) where
-  no-colon : 1 ≤ n → getD q (n - 1) 0 ≡ 58 → ⊥
-  no-colon h c =
-      let g : noName q ≡ false = rw (← e, ne-eqb n 0 (λ z. omega arith), eq-eqb _ 58 c) refl in
-      false≢true (sym g ∙ no)
+-- q stands after a `[:`, with n bytes before the next `]`
+module _ (q : List ℕ) (n : ℕ) (e : n ≡ untilClose q) (l : n < length q) where
+  module _ (no : 1 ≤ n → getD q (n - 1) 0 ≡ 58 → ⊥) where
+    -- no name stands there, and none d bytes later
+    plain-name : (d : ℕ) → d ≤ n → nameAt (drop d q) ≡ member (byte 91) 1
+    plain-name d h = sym (go (eqb (n - d) 0) refl)
+      where
+        near : n - d ≡ untilClose (drop d q)
+        near = let c = close-drop d q (omega arith) in omega arith
 
-  -- and none d bytes later
-  plain-name : (d : ℕ) → d ≤ n → nameAt (drop d q) ≡ Plain (n - d)
-  plain-name d h = sym (go (eqb (n - d) 0) refl)
-    where
-      near : n - d ≡ untilClose (drop d q)
-      near = let c = close-drop d q (omega arith) in omega arith
+        fits : n - d < length (drop d q)
+        fits = omega (arith, length-drop d q)
 
-      fits : n - d < length (drop d q)
-      fits = omega (arith, length-drop d q)
+        go : (t : Bool) → eqb (n - d) 0 ≡ t → member (byte 91) 1 ≡ nameAt (drop d q)
+        go true z = name-empty (drop d q) (n - d) near fits (eqb-true _ _ z)
+        go false z =
+            let f = eqb-false (n - d) 0 z in
+            let k : d + (n - d - 1) ≡ n - 1 = omega arith in
+            name-plain (drop d q) (n - d) near fits f (λ c. no (omega arith) (ap (λ (j : ℕ). getD q j 0) (sym k) ∙ sym (getD-drop d q (n - d - 1) 0) ∙ c))
 
-      go : (t : Bool) → eqb (n - d) 0 ≡ t → Plain (n - d) ≡ nameAt (drop d q)
-      go true z = name-empty (drop d q) (n - d) near fits (eqb-true _ _ z)
-      go false z =
-          let f = eqb-false (n - d) 0 z in
-          let k : d + (n - d - 1) ≡ n - 1 = omega arith in
-          name-plain (drop d q) (n - d) near fits f (λ c. no-colon (omega arith) (ap (λ (j : ℕ). getD q j 0) (sym k) ∙ sym (getD-drop d q (n - d - 1) 0) ∙ c))
+    plain-places : PlainTo q 0 (n + 1)
+    unfolding PlainTo
+    plain-places j a b = plain-name j (omega arith)
+
+  pub plain-empty : n ≡ 0 → (member (byte 91) 1 ≡ nameAt q) × PlainTo q 0 (n + 1)
+  plain-empty z = (name-empty q n e l z, plain-places (λ h. absurd (omega arith)))
+
+  pub plain-other : (n ≡ 0 → ⊥) → (getD q (n - 1) 0 ≡ 58 → ⊥) → (member (byte 91) 1 ≡ nameAt q) × PlainTo q 0 (n + 1)
+  plain-other z d = (name-plain q n e l z d, plain-places (λ h. d))
+
+-- where there are no places, nothing need be known
+pub plain-none : (q : List ℕ) (i p : ℕ) → p ≤ i → PlainTo q i p
+unfolding PlainTo
+plain-none q i p h j a b = absurd (omega arith)
+
+-- what is known of some places is known of fewer
+pub plain-less : (q : List ℕ) (i k p m : ℕ) → i ≤ k → m ≤ p → PlainTo q i p → PlainTo q k m
+unfolding PlainTo
+plain-less q i k p m g h s j a b = s j (omega arith) (omega arith)
+
+-- the places of a part are those of the whole, d bytes on
+pub plain-part : (q : List ℕ) (d i p : ℕ) → PlainTo (from d q) i p → PlainTo q (d + i) (d + p)
+unfolding PlainTo
+plain-part q d i p s j a b =
+    let k : d + (j - d) ≡ j = omega arith in
+    let f : drop (j - d) (from d q) ≡ drop j q = ap (drop (j - d)) (from-drop d q) ∙ drop-drop (j - d) d q ∙ ap (λ (m : ℕ). drop m q) k in
+    ap nameAt (sym f) ∙ s (j - d) (omega arith) (omega arith)
+
+-- a `[:` that begins a plain member has bytes after it
+name-after : (q : List ℕ) → nameAt q ≡ member (byte 91) 1 → 1 ≤ length q
+unfolding nameAt untilClose
+name-after [] e = let z : _≡_ {A = ℕ} 0 1 = cc in absurd (omega arith)
+name-after (x ∷ q) e = omega arith
+
+-- the places that are known stand before the end
+pub plain-within : (q : List ℕ) (i p : ℕ) → PlainTo q i p → i < p → p ≤ length q
+unfolding PlainTo
+plain-within q i p s h = let f = name-after (drop (p - 1) q) (s (p - 1) (omega arith) (omega arith)) in omega (arith, length-drop (p - 1) q)
 
 next-name : (first : Bool) (q : List ℕ) → nextMember first (91 ∷ 58 ∷ q) ≡ nameAt q
 unfolding nextMember bracketAt
 next-name first q = refl
 
--- at the start nothing is known
-pub plain-start : (q : List ℕ) → PlainTo q 0 0
-plain-start q = record { within = omega arith; later = λ j a b. absurd (omega arith) }
-
--- what is known at the i-th byte is known later
-pub plain-on : (q : List ℕ) (i k p : ℕ) → i ≤ k → PlainTo q i p → PlainTo q k p
-plain-on q i k p h s = record { within = s .within; later = λ j a. s .later j (omega arith) }
-
--- a plain member that was found at the i-th byte, with n bytes from its `[:` to the next `]`
-module _ (q : List ℕ) (i n : ℕ) (w : Within (drop i q) (Plain n)) where
-  rest : (j : ℕ) → i ≤ j → drop (suc (suc j)) q ≡ drop (j - i) (drop 2 (drop i q))
-  rest j h =
-      let k : i + (2 + (j - i)) ≡ suc (suc j) = omega arith in
-      sym (drop-drop (j - i) 2 (drop i q) ∙ drop-drop (2 + (j - i)) i q ∙ ap (λ (m : ℕ). drop m q) k)
-
-  fits-all : i + 2 + n < length q
-  fits-all = omega (arith, length-drop 2 (drop i q), length-drop i q)
-
-  module _ (j : ℕ) (a : i ≤ j) (b : j + 2 ≤ i + 2 + n) (o : getD q j 0 ≡ 91) (c : getD q (j + 1) 0 ≡ 58) where
-    here : drop j q ≡ 91 ∷ 58 ∷ drop (j - i) (drop 2 (drop i q))
-    here =
-        let f = fits-all in
-        let l : suc j < length q = omega arith in
-        let m : j < length q = omega arith in
-        let s : getD q (suc j) 0 ≡ 58 = rw add-one at c in
-        rw (drop-cons q j 0, drop-cons q (suc j) 0, o, s, rest j a) refl
-
-    plain-later : nextMember (eqb j 0) (drop j q) ≡ Plain (i + 2 + n - j - 2)
-    plain-later =
-        let k : n - (j - i) ≡ i + 2 + n - j - 2 = omega arith in
-        rw (here, next-name, plain-name (drop 2 (drop i q)) n (w .0) (w .1) (w .2) (j - i) (omega arith), k) refl
-
-pub plain-found : (q : List ℕ) (i n : ℕ) (r : Next) → r ≡ nextMember (eqb i 0) (drop i q) → r ≡ Plain n → PlainTo q i (i + 2 + n)
-plain-found q i n r e f =
-    let w : Within (drop i q) (Plain n) = subst (Within (drop i q)) (sym e ∙ f) (next-within (eqb i 0) (drop i q)) in
-    record { within = omega (arith, fits-all q i n w); later = plain-later q i n w }
+-- a `[:` at the i-th byte, which ends at a place that is known
+pub plain-known : (q : List ℕ) (i p : ℕ) (first : Bool) → PlainTo q (i + 2) (p + 1) → i + 2 ≤ p → getD q i 0 ≡ 91 → getD q (i + 1) 0 ≡ 58
+    → member (byte 91) 1 ≡ nextMember first (drop i q)
+unfolding PlainTo
+plain-known q i p first s h o c =
+    let w = plain-within q (i + 2) (p + 1) s (omega arith) in
+    let l : suc i < length q = omega arith in
+    let m : i < length q = omega arith in
+    let k : getD q (suc i) 0 ≡ 58 = rw add-one at c in
+    let f : nameAt (drop (suc (suc i)) q) ≡ member (byte 91) 1 = rw add-two at (s (i + 2) (omega arith) (omega arith)) in
+    rw (drop-cons q i 0, drop-cons q (suc i) 0, o, k, next-name) (sym f)

@@ -3,29 +3,23 @@ use mathlib.Core.Path.{_≡_, refl}
 use mathlib.Core.Bool.{Bool, true, false, cond, not, _&&_}
 use mathlib.Core.List.{List, [], _∷_}
 use mathlib.Core.Option.{Option, none, some}
-use Prim.Native.Nat.{ℕ, zero, suc, _+_, _-_, _≤_, _<_}
+use Prim.Native.Nat.{ℕ, zero, suc, _+_, _-_, _≤_}
 use native.Mathlib.Omega.{arith}
 use lib.Dec.{eqb, leb, ltb}
-use lib.ListN.{length, getD, drop}
+use lib.ListN.{length, getD}
 use borrow.Author.Tests.{eqb-true, leb-false}
 use Rattle.classes.proofs.TableLaws.{and-split}
 use Rattle.classes.specs.Names.{whichName}
-use Rattle.classes.specs.Members.{escapedEnd, rangeEnd, single, escapedMember, untilClose, noName, nameOf, nameAt, bracketAt, nextMember, Member, Members, longer, andMember, membersAfter, members}
-use Rattle.classes.specs.declared.members.Next.{Next}
-use Rattle.classes.specs.declared.members.Next.the-variants.{Close, Broken, Byte, Range, Name, Plain}
+use Rattle.classes.specs.Members.{Member, Step, close, broken, member, escapedEnd, rangeEnd, single, escapedMember, untilClose, noName, nameOf, nameAt, bracketAt, nextMember, Members, longer, andMember, membersAfter, members}
 
--- what stands next in q: a member is written with at least one byte and at most those of q, the closing `]` is the first byte, and of a `[`
--- that is plain before a `:` the next `]` is there, n bytes after the `:`
-abbrev pub Within : List ℕ → Next → Type 0
-Within q Close = getD q 0 0 ≡ 93
-Within q Broken = Unit {0}
-Within q (Byte b n) = (1 ≤ n) × (n ≤ length q)
-Within q (Range a b n) = (1 ≤ n) × (n ≤ length q)
-Within q (Name k n) = (1 ≤ n) × (n ≤ length q)
-Within q (Plain n) = (n ≡ untilClose (drop 2 q)) × (n < length (drop 2 q)) × (noName (drop 2 q) ≡ true)
+-- what stands next in q: a member is written with at least one byte and at most those of q, and the closing `]` is the first byte
+abbrev pub Within : List ℕ → Step → Type 0
+Within q close = getD q 0 0 ≡ 93
+Within q broken = Unit {0}
+Within q (member m n) = (1 ≤ n) × (n ≤ length q)
 
 module _ (q : List ℕ) where
-  cond-within : (t : Bool) (r s : Next) → (t ≡ true → Within q r) → (t ≡ false → Within q s) → Within q (cond t r s)
+  cond-within : (t : Bool) (r s : Step) → (t ≡ true → Within q r) → (t ≡ false → Within q s) → Within q (cond t r s)
   cond-within true r s f g = f refl
   cond-within false r s f g = g refl
 
@@ -48,18 +42,18 @@ module _ (q : List ℕ) where
   escaped-within [] h = tt
   escaped-within (y ∷ p) h = single-within y 2 p (omega arith) (omega arith)
 
-  name-within : length (drop 2 q) + 2 ≤ length q → Within q (nameAt (drop 2 q))
+  name-within : (p : List ℕ) → length p + 2 ≤ length q → Within q (nameAt p)
   unfolding nameAt
-  name-within h =
-      cond-within (leb (length (drop 2 q)) (untilClose (drop 2 q))) _ _ (λ e. tt)
-      (λ e. let l = leb-false (length (drop 2 q)) (untilClose (drop 2 q)) e in cond-within (noName (drop 2 q)) _ _ (λ f. (refl, l, f))
-      (λ f. cond-within (ltb (whichName (nameOf (drop 2 q))) 12) _ _ (λ g. omega arith) (λ g. tt)))
+  name-within p h =
+      cond-within (leb (length p) (untilClose p)) _ _ (λ e. tt)
+      (λ e. let l = leb-false (length p) (untilClose p) e in cond-within (noName p) _ _ (λ f. omega arith)
+      (λ f. cond-within (ltb (whichName (nameOf p)) 12) _ _ (λ g. omega arith) (λ g. tt)))
 
 bracket-within : (x : ℕ) (q : List ℕ) → Within (x ∷ q) (bracketAt q)
 unfolding bracketAt
 bracket-within x [] = omega arith
 bracket-within x (y ∷ q) =
-    cond-within (x ∷ y ∷ q) (eqb y 58) _ _ (λ e. name-within (x ∷ y ∷ q) (omega arith)) (λ e. single-within (x ∷ y ∷ q) 91 1 (y ∷ q) (omega arith) (omega arith))
+    cond-within (x ∷ y ∷ q) (eqb y 58) _ _ (λ e. name-within (x ∷ y ∷ q) q (omega arith)) (λ e. single-within (x ∷ y ∷ q) 91 1 (y ∷ q) (omega arith) (omega arith))
 
 pub next-within : (first : Bool) (q : List ℕ) → Within q (nextMember first q)
 unfolding nextMember
@@ -93,13 +87,10 @@ and-ended : (x : ℕ) (q : List ℕ) (b : Member) (o : Option Members) → Ended
 and-ended x q b none h = tt
 and-ended x q b (some r) h = ends-more x q (r .size) h
 
-after-ended : (x : ℕ) (q : List ℕ) (s : Next) (rest : ℕ → Option Members) → Within (x ∷ q) s → ((n : ℕ) → Ended q (rest n)) → Ended (x ∷ q) (membersAfter s rest)
-after-ended x q Close rest e h = (omega arith, omega arith, e)
-after-ended x q Broken rest e h = tt
-after-ended x q (Byte b n) rest e h = and-ended x q _ (rest _) (h _)
-after-ended x q (Range a b n) rest e h = and-ended x q _ (rest _) (h _)
-after-ended x q (Name k n) rest e h = and-ended x q _ (rest _) (h _)
-after-ended x q (Plain n) rest e h = and-ended x q _ (rest _) (h _)
+after-ended : (x : ℕ) (q : List ℕ) (s : Step) (rest : ℕ → Option Members) → Within (x ∷ q) s → ((n : ℕ) → Ended q (rest n)) → Ended (x ∷ q) (membersAfter s rest)
+after-ended x q close rest e h = (omega arith, omega arith, e)
+after-ended x q broken rest e h = tt
+after-ended x q (member m n) rest e h = and-ended x q m (rest _) (h _)
 
 pub members-ended : (q : List ℕ) (k : ℕ) (first : Bool) → Ended q (members q k first)
 unfolding members

@@ -7,8 +7,6 @@ use lib.Dec.{eqb, leb, ltb}
 use lib.ListN.{length, getD, take, drop}
 use Rattle.classes.specs.Letters.{folded}
 use Rattle.classes.specs.Names.{named, whichName}
-use Rattle.classes.specs.declared.members.Next.{Next}
-use Rattle.classes.specs.declared.members.Next.the-variants.{Close, Broken, Byte, Range, Name, Plain}
 use Rattle.classes.specs.declared.class.Tested.{Tested}
 use Rattle.classes.specs.declared.class.Tested.the-variants.{Bad, Read}
 
@@ -36,31 +34,37 @@ unfoldable pub accepted : Bool → Bool → List Member → ℕ → Bool
 accepted fold false ms x = folded fold (anyLists ms) x
 accepted fold true ms x = not (folded fold (anyLists ms) x)
 
--- How the members are read, from the left. `Byte b n`, `Range a b n`, `Name k n`: the member is written with n bytes.
--- `Plain n`: a `[` that "is a plain member" though `[:` stands there, with n bytes between that and the next `]`.
+-- How the members are read, from the left.
+
+-- what stands next in a class: its closing `]`; nothing that can be read, and the class is "broken"; or a member and the number of
+-- bytes that it is written with
+pub data Step : Type 0 where
+  close : Step
+  broken : Step
+  member : Member → ℕ → Step
 
 -- "any `\x`, `\]` too" as the end of a range: after b of n bytes, `-` and `\`
-abbrev pub escapedEnd : ℕ → ℕ → List ℕ → Next
-escapedEnd b n [] = Broken
-escapedEnd b n (y ∷ q) = Range b y (n + 3)
+abbrev pub escapedEnd : ℕ → ℕ → List ℕ → Step
+escapedEnd b n [] = broken
+escapedEnd b n (y ∷ q) = member (range b y) (n + 3)
 
 -- after b of n bytes and `-`: "a next byte other than `]` (a `[` too)" ends a range
-abbrev pub rangeEnd : ℕ → ℕ → List ℕ → Next
-rangeEnd b n [] = Byte b n
+abbrev pub rangeEnd : ℕ → ℕ → List ℕ → Step
+rangeEnd b n [] = member (byte b) n
 rangeEnd b n (y ∷ q) =
-    cond (eqb y 93) (Byte b n)
+    cond (eqb y 93) (member (byte b) n)
     (cond (eqb y 92) (escapedEnd b n q)
-    (Range b y (n + 2)))
+    (member (range b y) (n + 2)))
 
 -- the single member b of n bytes, or the range that it begins: "a range with `-` between a single member and a next byte".
 -- "After a range or a name, `-` is plain": only here is a `-` looked for
-unfoldable pub single : ℕ → ℕ → List ℕ → Next
-single b n [] = Byte b n
-single b n (y ∷ q) = cond (eqb y 45) (rangeEnd b n q) (Byte b n)
+unfoldable pub single : ℕ → ℕ → List ℕ → Step
+single b n [] = member (byte b) n
+single b n (y ∷ q) = cond (eqb y 45) (rangeEnd b n q) (member (byte b) n)
 
 -- "`\x`": after `\`
-abbrev pub escapedMember : List ℕ → Next
-escapedMember [] = Broken
+abbrev pub escapedMember : List ℕ → Step
+escapedMember [] = broken
 escapedMember (y ∷ q) = single y 2 q
 
 -- how many bytes stand before "the next `]`"
@@ -78,23 +82,23 @@ nameOf q = take (untilClose q - 1) q
 
 -- "After `[:` look for the next `]`: none, the pattern is broken; .. the inner `[` is a plain member and reading goes on at the `:`;
 -- a name outside the twelve, the empty name too, is broken"
-unfoldable pub nameAt : List ℕ → Next
+unfoldable pub nameAt : List ℕ → Step
 nameAt q =
-    cond (leb (length q) (untilClose q)) Broken
-    (cond (noName q) (Plain (untilClose q))
-    (cond (ltb (whichName (nameOf q)) 12) (Name (whichName (nameOf q)) (untilClose q + 3))
-    Broken))
+    cond (leb (length q) (untilClose q)) broken
+    (cond (noName q) (member (byte 91) 1)
+    (cond (ltb (whichName (nameOf q)) 12) (member (name (whichName (nameOf q))) (untilClose q + 3))
+    broken))
 
 -- after `[` among the members
-unfoldable pub bracketAt : List ℕ → Next
-bracketAt [] = Byte 91 1
+unfoldable pub bracketAt : List ℕ → Step
+bracketAt [] = member (byte 91) 1
 bracketAt (y ∷ q) = cond (eqb y 58) (nameAt q) (single 91 1 (y ∷ q))
 
 -- the next member, or the closing `]`: "a `]` as first member is a member". "No closing `]` is broken."
-unfoldable pub nextMember : Bool → List ℕ → Next
-nextMember first [] = Broken
+unfoldable pub nextMember : Bool → List ℕ → Step
+nextMember first [] = broken
 nextMember first (x ∷ q) =
-    cond (eqb x 93 && not first) Close
+    cond (eqb x 93 && not first) close
     (cond (eqb x 92) (escapedMember q)
     (cond (eqb x 91) (bracketAt q)
     (single x 1 q)))
@@ -114,14 +118,11 @@ abbrev pub andMember : Member → Option Members → Option Members
 andMember m none = none
 andMember m (some r) = some (record { list = m ∷ r .list; size = suc (r .size) })
 
--- after the member that was read; of "a plain member" `[` before a `:`, "reading goes on at the `:`"
-abbrev pub membersAfter : Next → (ℕ → Option Members) → Option Members
-membersAfter Close rest = some (record { list = []; size = 1 })
-membersAfter Broken rest = none
-membersAfter (Byte b n) rest = andMember (byte b) (rest (pred n))
-membersAfter (Range a b n) rest = andMember (range a b) (rest (pred n))
-membersAfter (Name k n) rest = andMember (name k) (rest (pred n))
-membersAfter (Plain n) rest = andMember (byte 91) (rest 0)
+-- what stood next and then the members after its n bytes, of which the first byte is passed already
+abbrev pub membersAfter : Step → (ℕ → Option Members) → Option Members
+membersAfter close rest = some (record { list = []; size = 1 })
+membersAfter broken rest = none
+membersAfter (member m n) rest = andMember m (rest (pred n))
 
 -- "members up to `]`", after the first k bytes, which belong to a member that was read; none: broken. `first`: no member was read yet
 unfoldable pub members : List ℕ → ℕ → Bool → Option Members
@@ -149,7 +150,7 @@ notSign (x ∷ q) = eqb x 33 || eqb x 94
 unfoldable pub readClass : List ℕ → Option Class
 readClass q = cond (notSign q) (classOf true 1 (members (drop 1 q) 0 true)) (classOf false 0 (members q 0 true))
 
--- what the test of a byte answers: broken, or whether the class accepts it, with the class's size
+-- what the code answers for the class that was read: broken, or whether it accepts the byte x, with its size. Only this names the code's answer
 unfoldable pub tested : Bool → ℕ → Option Class → Tested
 tested fold x none = Bad
 tested fold x (some c) = Read (accepted fold (c .negated) (c .list) x) (c .size)

@@ -1,11 +1,11 @@
 // A whole class: read to its `]`, and a byte tested against it on the way.
 ghost use mathlib.Core.Path.{_≡_};
 ghost use mathlib.Core.Bool.{true, _||_};
-ghost use Prim.Native.Nat.{_<_};
+ghost use Prim.Native.Nat.{_<_, _+_};
 ghost use lib.Dec.{eqb};
 ghost use lib.ListN.{length, drop};
 ghost use Rattle.classes.specs.Members.{byte, range, name, lists, nextMember, members, readClass, tested, notSign};
-ghost use Rattle.classes.specs.Scan.{scanned, PlainTo};
+ghost use Rattle.classes.specs.Scan.{stepOf, plainPlaces, PlainTo, scanned};
 use crate::letters::to_lower;
 use crate::letters::to_upper;
 use crate::members::Next;
@@ -65,8 +65,8 @@ fn name_lists(k: usize, x: u8, y: u8) -> bool
 
 // The next member at the i-th byte of q. A `[:` before the place `plain` is known to begin a plain member, with no search for the next `]`.
 fn next_at(q: &[u8], i: usize, plain: usize) -> Next
-    requires { ⌜ (i < length (now q)) × PlainTo (now q) i plain ⌝ }
-    ensures { λ r. ⌜ r ≡ nextMember (eqb i 0) (drop i (now (q .entry))) ⌝ }
+    requires { ⌜ (i < length (now q)) × PlainTo (now q) (i + 2) (plain + 1) ⌝ }
+    ensures { λ r. ⌜ (stepOf r ≡ nextMember (eqb i 0) (drop i (now (q .entry)))) × PlainTo (now (q .entry)) (i + 2) (i + 2 + plainPlaces r) ⌝ }
 {
     if q[i] == 91 && i + 2 <= plain && q[i + 1] == 58 {
         return Next::Plain(plain - i - 2);

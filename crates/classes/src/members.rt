@@ -1,7 +1,8 @@
 // How the members of a class are read, from the left.
 ghost use mathlib.Core.Path.{_≡_};
-ghost use Prim.Native.Nat.{_<_};
+ghost use Prim.Native.Nat.{_<_, _+_};
 ghost use Rattle.classes.specs.Members.{single, untilClose, nameAt, bracketAt, nextMember};
+ghost use Rattle.classes.specs.Scan.{stepOf, plainPlaces, PlainTo};
 use crate::names::which_name;
 
 // What stands next in a class: its closing `]`, nothing that can be read, or a member: a byte, a range or one of the twelve names, and last
@@ -19,7 +20,7 @@ pub enum Next {
 // The single member b, written with n bytes, or the range that it begins; q stands after it.
 fn read_single(b: u8, n: usize, q: &[u8]) -> Next
     requires { ⌜ n < 3 ⌝ }
-    ensures { λ r. ⌜ r ≡ single b n (now (q .entry)) ⌝ }
+    ensures { λ r. ⌜ (stepOf r ≡ single b n (now (q .entry))) × (plainPlaces r ≡ 0) ⌝ }
 {
     if q.len() < 2 {
         return Next::Byte(b, n);
@@ -57,7 +58,7 @@ fn until_close(q: &[u8]) -> usize
 
 // What a `[:` begins; q stands after it.
 fn read_name(q: &[u8]) -> Next
-    ensures { λ r. ⌜ r ≡ nameAt (now (q .entry)) ⌝ }
+    ensures { λ r. ⌜ (stepOf r ≡ nameAt (now (q .entry))) × PlainTo (now (q .entry)) 0 (plainPlaces r) ⌝ }
 {
     let n = until_close(q);
     if q.len() <= n {
@@ -78,7 +79,7 @@ fn read_name(q: &[u8]) -> Next
 
 // What a `[` among the members begins; q stands after it.
 fn read_bracket(q: &[u8]) -> Next
-    ensures { λ r. ⌜ r ≡ bracketAt (now (q .entry)) ⌝ }
+    ensures { λ r. ⌜ (stepOf r ≡ bracketAt (now (q .entry))) × PlainTo (now (q .entry)) 1 (1 + plainPlaces r) ⌝ }
 {
     if q.len() == 0 {
         return Next::Byte(91, 1);
@@ -91,7 +92,7 @@ fn read_bracket(q: &[u8]) -> Next
 
 // The next member of q, or the closing `]`. `first`: no member was read yet.
 pub fn next_member(q: &[u8], first: bool) -> Next
-    ensures { λ r. ⌜ r ≡ nextMember first (now (q .entry)) ⌝ }
+    ensures { λ r. ⌜ (stepOf r ≡ nextMember first (now (q .entry))) × PlainTo (now (q .entry)) 2 (2 + plainPlaces r) ⌝ }
 {
     if q.len() == 0 {
         return Next::Broken;

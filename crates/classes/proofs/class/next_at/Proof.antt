@@ -1,11 +1,11 @@
 -- `classes::class::next_at` meets its contract: a `[:` before `plain` is known to begin a plain member, else the member is read.
-use mathlib.Core.Path.{sym, ap, _∙_}
-use native.Mathlib.Nat.{le-refl}
+use mathlib.Core.Path.{ap, _∙_}
 use borrow.Author.Tests.{eqb-true, leb-true}
 use borrow.Author.Needs.{needs}
 use native.Mathlib.Omega.{arith}
 use Rattle.classes.specs.Members.{nextMember}
 use Rattle.classes.proofs.MemberLaws.{from-drop}
+use Rattle.classes.proofs.PlainLaws.{plain-less, plain-part, plain-within, plain-known}
 use Rattle.classes.proofs.class.next_at.Statement.{statement}
 use Rattle.classes.proofs.class.next_at.Tie as tie
 
@@ -19,7 +19,8 @@ add-if3 : tie.Need-add-if3
 add-if3 c = search needs
 
 shared-slice-read-if3 : tie.Need-shared-slice-read-if3
-shared-slice-read-if3 c = omega (arith, leb-true)
+shared-slice-read-if3 c =
+    let h = plain-within _ _ _ (c .before .before .before .before .before .pre .1) (omega (arith, leb-true)) in omega (arith, leb-true)
 
 sub-t13 : tie.Need-sub-t13
 sub-t13 c = omega (arith, leb-true)
@@ -28,7 +29,10 @@ sub-t14 : tie.Need-sub-t14
 sub-t14 c = omega (arith, leb-true)
 
 returns : tie.Need-returns
-returns c = sym (c .before .before .before .before .before .before .pre .1 .later _ (le-refl _) (leb-true _ _ (c .before .before .if2 .taken)) (c .before .before .before .if1 .taken) (eqb-true _ _ (c .if3 .taken)))
+returns c = (
+  plain-known _ _ _ _ (c .before .before .before .before .before .before .pre .1) (leb-true _ _ (c .before .before .if2 .taken)) (c .before .before .before .if1 .taken) (eqb-true _ _ (c .if3 .taken)),
+  plain-less _ _ _ _ _ (omega arith) (omega (arith, leb-true)) (c .before .before .before .before .before .before .pre .1),
+)
 
 sub-next-member : tie.Need-sub-next-member
 sub-next-member c = search needs
@@ -43,7 +47,10 @@ next-member-requires : tie.Need-next-member-requires
 next-member-requires c κs = search needs
 
 returns-2 : tie.Need-returns-2
-returns-2 c = c .next-member .ensures ∙ ap (nextMember _) (from-drop (c .before .before .before .before .before .args .i) (c .before .before .before .before .before .args .q .now))
+returns-2 c = (
+  c .next-member .ensures .0 ∙ ap (nextMember _) (from-drop (c .before .before .before .before .before .args .i) (c .before .before .before .before .before .args .q .now)),
+  plain-less _ _ _ _ _ (omega arith) (omega arith) (plain-part _ _ 2 _ (c .next-member .ensures .1)),
+)
 
 pub next-at-spec : {M : Type 1} → statement M
 next-at-spec =

@@ -1,9 +1,11 @@
 -- `classes::members::next_member` meets its contract: each way out settles the tests of `nextMember`.
 use mathlib.Core.Logic.{⊎-elim}
+use native.Mathlib.Omega.{arith}
 use lib.ListN.{getD}
 use borrow.Author.Tests.{not-true}
 use borrow.Author.Needs.{needs}
 use Rattle.classes.proofs.MemberLaws.{NotClose, first-goes-on, other-goes-on, next-end, next-close, next-open, next-escaped, next-bracket, next-single}
+use Rattle.classes.proofs.PlainLaws.{plain-none, plain-less, plain-part}
 use Rattle.classes.proofs.members.next_member.Statement.{statement}
 use Rattle.classes.proofs.members.next_member.Tie as tie
 
@@ -12,18 +14,18 @@ goes-on : (c : tie.Joined2) → NotClose (c .before .before .before .before .arg
 goes-on c = ⊎-elim (λ w. first-goes-on _ _ (w .1 .left)) (λ w. other-goes-on _ _ (w .left)) (c .if2 .came)
 
 returns : tie.Need-returns
-returns c = next-end _ _ (c .if1 .taken)
+returns c = (next-end _ _ (c .if1 .taken), plain-none _ _ _ (omega arith))
 
 shared-slice-read-x : tie.Need-shared-slice-read-x
 shared-slice-read-x c = search needs
 
 returns-2 : tie.Need-returns-2
 returns-2 c =
-    next-close _ _ (c .before .before .before .if1 .left) (c .before .if2 .taken) (not-true _ (c .if3 .taken))
+    (next-close _ _ (c .before .before .before .if1 .left) (c .before .if2 .taken) (not-true _ (c .if3 .taken)), plain-none _ _ _ (omega arith))
 
 returns-3 : tie.Need-returns-3
 returns-3 c =
-    next-open _ _ (c .before .before .before .before .if1 .left) (goes-on (c .before .before)) (c .before .if4 .taken) (c .if5 .taken)
+    (next-open _ _ (c .before .before .before .before .if1 .left) (goes-on (c .before .before)) (c .before .if4 .taken) (c .if5 .taken), plain-none _ _ _ (omega arith))
 
 shared-slice-read-read-single : tie.Need-shared-slice-read-read-single
 shared-slice-read-read-single c = search needs
@@ -41,8 +43,10 @@ read-single-requires : tie.Need-read-single-requires
 read-single-requires c κs = search needs
 
 returns-4 : tie.Need-returns-4
-returns-4 c =
-    next-escaped _ _ _ (goes-on (c .before .before .before .before .before)) (c .before .before .before .before .if4 .taken) (c .before .before .before .if5 .left) (c .read-single .ensures)
+returns-4 c = (
+  next-escaped _ _ _ (goes-on (c .before .before .before .before .before)) (c .before .before .before .before .if4 .taken) (c .before .before .before .if5 .left) (c .read-single .ensures .0),
+  plain-none _ _ _ (omega (arith, c .read-single .ensures .1)),
+)
 
 sub-read-bracket : tie.Need-sub-read-bracket
 sub-read-bracket c = search needs
@@ -57,10 +61,12 @@ read-bracket-requires : tie.Need-read-bracket-requires
 read-bracket-requires c κs = search needs
 
 returns-5 : tie.Need-returns-5
-returns-5 c =
-    next-bracket _ _ _ (c .before .before .before .before .before .before .if1 .left) (goes-on (c .before .before .before .before)) (c .before .before .before .if4 .left)
-    (c .before .before .if6 .taken)
-    (c .read-bracket .ensures)
+returns-5 c = (
+  next-bracket _ _ _ (c .before .before .before .before .before .before .if1 .left) (goes-on (c .before .before .before .before)) (c .before .before .before .if4 .left)
+      (c .before .before .if6 .taken)
+      (c .read-bracket .ensures .0),
+  plain-less _ _ _ _ _ (omega arith) (omega arith) (plain-part _ 1 1 _ (c .read-bracket .ensures .1)),
+)
 
 sub-read-single-2 : tie.Need-sub-read-single-2
 sub-read-single-2 c = search needs
@@ -75,10 +81,12 @@ read-single-requires-2 : tie.Need-read-single-requires-2
 read-single-requires-2 c κs = search needs
 
 returns-6 : tie.Need-returns-6
-returns-6 c =
-    next-single _ _ _ (c .before .before .before .before .before .before .if1 .left) (goes-on (c .before .before .before .before)) (c .before .before .before .if4 .left)
-    (c .before .before .if6 .left)
-    (c .read-single2 .ensures)
+returns-6 c = (
+  next-single _ _ _ (c .before .before .before .before .before .before .if1 .left) (goes-on (c .before .before .before .before)) (c .before .before .before .if4 .left)
+      (c .before .before .if6 .left)
+      (c .read-single2 .ensures .0),
+  plain-none _ _ _ (omega (arith, c .read-single2 .ensures .1)),
+)
 
 pub next-member-spec : {M : Type 1} → statement M
 next-member-spec =

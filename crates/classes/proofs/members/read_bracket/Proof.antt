@@ -1,11 +1,13 @@
 -- `classes::members::read_bracket` meets its contract: each way out settles the tests of `bracketAt`.
+use native.Mathlib.Omega.{arith}
 use borrow.Author.Needs.{needs}
 use Rattle.classes.proofs.MemberLaws.{bracket-end, bracket-name, bracket-single}
+use Rattle.classes.proofs.PlainLaws.{plain-none, plain-part}
 use Rattle.classes.proofs.members.read_bracket.Statement.{statement}
 use Rattle.classes.proofs.members.read_bracket.Tie as tie
 
 returns : tie.Need-returns
-returns c = bracket-end _ (c .if1 .taken)
+returns c = (bracket-end _ (c .if1 .taken), plain-none _ _ _ (omega arith))
 
 shared-slice-read-if2 : tie.Need-shared-slice-read-if2
 shared-slice-read-if2 c = search needs
@@ -24,14 +26,14 @@ read-name-requires c κs = search needs
 
 returns-2 : tie.Need-returns-2
 returns-2 c =
-    bracket-name _ _ (c .before .before .before .before .if1 .left) (c .before .before .if2 .taken) (c .read-name .ensures)
+    (bracket-name _ _ (c .before .before .before .before .if1 .left) (c .before .before .if2 .taken) (c .read-name .ensures .0), plain-part _ 1 0 _ (c .read-name .ensures .1))
 
 read-single-requires : tie.Need-read-single-requires
 read-single-requires c κs = search needs
 
 returns-3 : tie.Need-returns-3
 returns-3 c =
-    bracket-single _ _ (c .before .before .before .if1 .left) (c .before .if2 .left) (c .read-single .ensures)
+    (bracket-single _ _ (c .before .before .before .if1 .left) (c .before .if2 .left) (c .read-single .ensures .0), plain-none _ _ _ (omega (arith, c .read-single .ensures .1)))
 
 pub read-bracket-spec : {M : Type 1} → statement M
 read-bracket-spec =

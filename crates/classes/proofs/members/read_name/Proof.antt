@@ -4,7 +4,8 @@ use Prim.Native.Nat.{_-_}
 use native.Mathlib.Omega.{arith}
 use lib.Seq.{length-take-le}
 use borrow.Author.Needs.{needs}
-use Rattle.classes.proofs.MemberLaws.{name-open, name-empty, name-plain, name-unknown, name-found}
+use Rattle.classes.proofs.MemberLaws.{name-open, name-unknown, name-found}
+use Rattle.classes.proofs.PlainLaws.{plain-none, plain-empty, plain-other}
 use Rattle.classes.proofs.members.read_name.Statement.{statement}
 use Rattle.classes.proofs.members.read_name.Tie as tie
 
@@ -12,10 +13,10 @@ until-close-requires : tie.Need-until-close-requires
 until-close-requires c κs = search needs
 
 returns : tie.Need-returns
-returns c = name-open _ _ (c .before .until-close .ensures) (c .if1 .taken)
+returns c = (name-open _ _ (c .before .until-close .ensures) (c .if1 .taken), plain-none _ _ _ (omega arith))
 
 returns-2 : tie.Need-returns-2
-returns-2 c = name-empty _ _ (c .before .before .until-close .ensures) (c .before .if1 .left) (c .if2 .taken)
+returns-2 c = plain-empty _ _ (c .before .before .until-close .ensures) (c .before .if1 .left) (c .if2 .taken)
 
 sub-if3 : tie.Need-sub-if3
 sub-if3 c = search needs
@@ -25,7 +26,7 @@ shared-slice-read-if3 c = search needs
 
 returns-3 : tie.Need-returns-3
 returns-3 c =
-    name-plain _ _ (c .before .before .before .before .until-close .ensures) (c .before .before .before .if1 .left) (c .before .before .if2 .left) (c .if3 .taken)
+    plain-other _ _ (c .before .before .before .before .until-close .ensures) (c .before .before .before .if1 .left) (c .before .before .if2 .left) (c .if3 .taken)
 
 sub-which-name : tie.Need-sub-which-name
 sub-which-name c = search needs
@@ -38,17 +39,21 @@ which-name-requires : tie.Need-which-name-requires
 which-name-requires c κs = search needs
 
 returns-4 : tie.Need-returns-4
-returns-4 c =
-    name-unknown _ _ (c .before .before .before .before .before .before .before .until-close .ensures) _ (c .before .before .before .before .before .before .if1 .left) (c .before .before .before .before .before .if2 .left)
-    (c .before .before .before .if3 .left) (c .before .which-name .ensures) (c .if4 .taken)
+returns-4 c = (
+  name-unknown _ _ (c .before .before .before .before .before .before .before .until-close .ensures) _ (c .before .before .before .before .before .before .if1 .left) (c .before .before .before .before .before .if2 .left)
+      (c .before .before .before .if3 .left) (c .before .which-name .ensures) (c .if4 .taken),
+  plain-none _ _ _ (omega arith),
+)
 
 add-t4 : tie.Need-add-t4
 add-t4 c = search needs
 
 returns-5 : tie.Need-returns-5
-returns-5 c =
-    name-found _ _ (c .before .before .before .before .before .before .before .until-close .ensures) _ (c .before .before .before .before .before .before .if1 .left) (c .before .before .before .before .before .if2 .left)
-    (c .before .before .before .if3 .left) (c .before .which-name .ensures) (c .if4 .left)
+returns-5 c = (
+  name-found _ _ (c .before .before .before .before .before .before .before .until-close .ensures) _ (c .before .before .before .before .before .before .if1 .left) (c .before .before .before .before .before .if2 .left)
+      (c .before .before .before .if3 .left) (c .before .which-name .ensures) (c .if4 .left),
+  plain-none _ _ _ (omega arith),
+)
 
 pub read-name-spec : {M : Type 1} → statement M
 read-name-spec =

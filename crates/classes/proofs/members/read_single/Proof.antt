@@ -1,35 +1,36 @@
 -- `classes::members::read_single` meets its contract: each way out settles the tests of `single`.
+use mathlib.Core.Path.{refl}
 use borrow.Author.Needs.{needs}
 use Rattle.classes.proofs.MemberLaws.{single-short, single-plain, single-close, single-range, single-open, single-escaped}
 use Rattle.classes.proofs.members.read_single.Statement.{statement}
 use Rattle.classes.proofs.members.read_single.Tie as tie
 
 returns : tie.Need-returns
-returns c = single-short _ _ _ (c .if1 .taken)
+returns c = (single-short _ _ _ (c .if1 .taken), refl)
 
 shared-slice-read-if2 : tie.Need-shared-slice-read-if2
 shared-slice-read-if2 c = search needs
 
 returns-2 : tie.Need-returns-2
-returns-2 c = single-plain _ _ _ (c .before .before .if1 .left) (c .if2 .taken)
+returns-2 c = (single-plain _ _ _ (c .before .before .if1 .left) (c .if2 .taken), refl)
 
 shared-slice-read-y : tie.Need-shared-slice-read-y
 shared-slice-read-y c = search needs
 
 returns-3 : tie.Need-returns-3
 returns-3 c =
-    single-close _ _ _ (c .before .before .before .before .if1 .left) (c .before .before .if2 .left) (c .if3 .taken)
+    (single-close _ _ _ (c .before .before .before .before .if1 .left) (c .before .before .if2 .left) (c .if3 .taken), refl)
 
 add-t11 : tie.Need-add-t11
 add-t11 c = search needs
 
 returns-4 : tie.Need-returns-4
 returns-4 c =
-    single-range _ _ _ (c .before .before .before .before .before .if1 .left) (c .before .before .before .if2 .left) (c .before .if3 .left) (c .if4 .taken)
+    (single-range _ _ _ (c .before .before .before .before .before .if1 .left) (c .before .before .before .if2 .left) (c .before .if3 .left) (c .if4 .taken), refl)
 
 returns-5 : tie.Need-returns-5
 returns-5 c =
-    single-open _ _ _ (c .before .before .before .before .before .before .if1 .left) (c .before .before .before .before .if2 .left) (c .before .if4 .left) (c .if5 .taken)
+    (single-open _ _ _ (c .before .before .before .before .before .before .if1 .left) (c .before .before .before .before .if2 .left) (c .before .if4 .left) (c .if5 .taken), refl)
 
 shared-slice-read-z : tie.Need-shared-slice-read-z
 shared-slice-read-z c = search needs
@@ -39,7 +40,7 @@ add-t6 c = search needs
 
 returns-6 : tie.Need-returns-6
 returns-6 c =
-    single-escaped _ _ _ (c .before .before .before .before .before .if2 .left) (c .before .before .if4 .left) (c .before .if5 .left)
+    (single-escaped _ _ _ (c .before .before .before .before .before .if2 .left) (c .before .before .if4 .left) (c .before .if5 .left), refl)
 
 pub read-single-spec : {M : Type 1} → statement M
 read-single-spec =
