@@ -5,9 +5,8 @@ use mathlib.Core.List.{List, [], _∷_}
 use lib.ListN.{length}
 use Rattle.wildmatch.specs.Answers.{Answered, codeOf}
 use Rattle.wildmatch.specs.declared.answer.Answer.{Answer}
-use Rattle.questions.specs.Answers.{IgnoreAnswered, AttributeAnswered, ignoreCode, attributeCode}
-use Rattle.questions.specs.declared.IgnoreAnswer.{IgnoreAnswer}
-use Rattle.questions.specs.declared.AttributeAnswer.{AttributeAnswer}
+use Rattle.questions.specs.Complete.{Complete}
+use Rattle.questions.specs.Answers.{IgnoreAnswered, AttributeAnswered}
 
 -- the code of the matcher's answer
 pub record MatchCode (pattern text : List ℕ) (flags code : ℕ) : Type 0 where
@@ -15,14 +14,14 @@ pub record MatchCode (pattern text : List ℕ) (flags code : ℕ) : Type 0 where
   pub answered : Answered pattern text flags answer
   pub coded : code ≡ codeOf answer
 
--- the code of the ignore question's answer "over one file of base 0": all rule bytes are that file
+-- the number of the ignore question's answer "over one file of base 0": all rule bytes are that file
 pub record IgnoreCode (path rules : List ℕ) (flags code : ℕ) : Type 0 where
-  pub answer : IgnoreAnswer
+  pub answer : Complete
   pub answered : IgnoreAnswered path rules (length rules ∷ []) (0 ∷ []) flags answer
-  pub coded : code ≡ ignoreCode answer
+  pub coded : code ≡ answer .number
 
--- the code of the attribute question's answer over one file of base 0
+-- the number of the attribute question's answer over one file of base 0
 pub record AttributeCode (path rules name : List ℕ) (flags code : ℕ) : Type 0 where
-  pub answer : AttributeAnswer
+  pub answer : Complete
   pub answered : AttributeAnswered path rules (length rules ∷ []) (0 ∷ []) name flags answer
-  pub coded : code ≡ attributeCode answer
+  pub coded : code ≡ answer .number

@@ -1,5 +1,6 @@
 -- Demand 3, as one claim over both questions, every cut and every choice of overwritten lines. What the calls answer is what their contracts allow
--- (`IgnoreAnswered`, `AttributeAnswered`): the functions `ignore` and `attribute` of `questions` are proved to give such an answer, and `OneAnswer` that there is only one.
+-- (`IgnoreAnswered`, `AttributeAnswered`): the functions `ignore` and `attribute` of `questions` are proved to give such a complete answer, and `OneAnswer`
+-- that there is only one.
 use Prim.Native.Nat.{ℕ}
 use mathlib.Core.Path.{_≡_}
 use mathlib.Core.Bool.{Bool, true}
@@ -13,10 +14,9 @@ use Rattle.entries.specs.Entries.{Entry}
 use Rattle.ignorelines.specs.IgnoreLines.{Verdict, ignoreWord}
 use Rattle.attributelines.specs.AttributeLines.{attributeWord}
 use Rattle.attributelines.specs.declared.State.{State}
+use Rattle.questions.specs.Complete.{Complete}
 use Rattle.questions.specs.Verdicts.{verdict, attributeState, parents, topDown, visited}
 use Rattle.questions.specs.Answers.{pathEntry, folds, spoken, IgnoreAnswered, AttributeAnswered}
-use Rattle.questions.specs.declared.IgnoreAnswer.{IgnoreAnswer}
-use Rattle.questions.specs.declared.AttributeAnswer.{AttributeAnswer}
 use Rattle.layers.specs.Parts.{Parted, Composes}
 use Rattle.layers.specs.Blanking.{Choice, blanked}
 
@@ -36,11 +36,11 @@ pub record Cut (path rules ends bases name : List ℕ) (flags : ℕ) (earlier la
   pub of-attributes : (fold : Bool) (e : Entry) (attribute : List ℕ) → Composes (attributeWord fold e attribute) (orderedLines rules ends bases) earlier later
   -- "every accepted question is answered from these joined answers by demand 2's rules": "Put the joined answer in place of each entry's
   -- verdict: the rule from the top down then gives what the ignore question answers."
-  pub ignore-answers : (answer : IgnoreAnswer) → IgnoreAnswered path rules ends bases flags answer
+  pub ignore-answers : (answer : Complete) → IgnoreAnswered path rules ends bases flags answer
       → Accepted (IgnoreRefuses path rules ends bases flags)
       → answer ≡ topDown (joinedVerdict (folds flags) earlier later) (parents path) (pathEntry path flags)
   -- "The attribute question answers the path's joined answer itself."
-  pub attribute-answers : (answer : AttributeAnswer) → AttributeAnswered path rules ends bases name flags answer
+  pub attribute-answers : (answer : Complete) → AttributeAnswered path rules ends bases name flags answer
       → Accepted (AttributeRefuses path rules ends bases name flags)
       → answer ≡ spoken (joinedState (folds flags) name earlier later (pathEntry path flags))
 
@@ -63,12 +63,12 @@ pub record Blanks (path rules ends bases name : List ℕ) (flags : ℕ) (chosen 
   pub ignore-accepted : Accepted (IgnoreRefuses path rules ends bases flags) → SparesVisited chosen path rules ends bases flags
       → Accepted (IgnoreRefuses path (blanked chosen rules ends bases) ends bases flags)
   pub ignore-same : Accepted (IgnoreRefuses path rules ends bases flags) → SparesVisited chosen path rules ends bases flags
-      → (answer again : IgnoreAnswer) → IgnoreAnswered path rules ends bases flags answer
+      → (answer again : Complete) → IgnoreAnswered path rules ends bases flags answer
       → IgnoreAnswered path (blanked chosen rules ends bases) ends bases flags again → again ≡ answer
   pub attribute-accepted : Accepted (AttributeRefuses path rules ends bases name flags) → SparesAttribute chosen path rules ends bases name flags
       → Accepted (AttributeRefuses path (blanked chosen rules ends bases) ends bases name flags)
   pub attribute-same : Accepted (AttributeRefuses path rules ends bases name flags) → SparesAttribute chosen path rules ends bases name flags
-      → (answer again : AttributeAnswer) → AttributeAnswered path rules ends bases name flags answer
+      → (answer again : Complete) → AttributeAnswered path rules ends bases name flags answer
       → AttributeAnswered path (blanked chosen rules ends bases) ends bases name flags again → again ≡ answer
 
 -- Demand 3 of one question's inputs: every cut, every choice

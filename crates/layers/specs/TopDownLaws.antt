@@ -6,12 +6,12 @@ use mathlib.Core.Option.{Option}
 use Rattle.rulefiles.specs.Last.{Decision}
 use Rattle.entries.specs.Entries.{Entry}
 use Rattle.ignorelines.specs.IgnoreLines.{Verdict}
+use Rattle.questions.specs.Complete.{Complete}
 use Rattle.questions.specs.Verdicts.{ignores, topDown, visited}
-use Rattle.questions.specs.declared.IgnoreAnswer.{IgnoreAnswer}
 
 module _ (v w : Entry → Option (Decision Verdict)) where
   -- below a parent
-  below : (ps : List Entry) (path : Entry) (stop : Bool) (a : IgnoreAnswer)
+  below : (ps : List Entry) (path : Entry) (stop : Bool) (a : Complete)
       → ((e : Entry) → List·Memᴰ e (cond stop [] (visited v ps path)) → w e ≡ v e)
       → (((e : Entry) → List·Memᴰ e (visited v ps path) → w e ≡ v e) → topDown w ps path ≡ topDown v ps path)
       → cond stop a (topDown w ps path) ≡ cond stop a (topDown v ps path)

@@ -1,7 +1,8 @@
-// Both questions for the outside tests: the answer's code as the result, its numbers in a lent list.
+// Both questions for the outside tests: the complete answer's number as the result, its values in a lent list.
 ghost use mathlib.Core.Path.{_≡_};
-ghost use mathlib.Core.List.{_∷_};
-ghost use Rattle.prober.specs.Probes.{put, placeNumbers, ignoreNumbers, valueSpan, spokenNumbers, attributeNumbers, IgnoreProbed, AttributeProbed};
+ghost use mathlib.Core.List.{_∷_, _++_};
+ghost use Rattle.questions.specs.Complete.{placeValues, stateValues, completeIgnore, completeAttribute};
+ghost use Rattle.prober.specs.Probes.{put, IgnoreProbed, AttributeProbed};
 use attributelines::Span;
 use attributelines::State;
 use questions::AttributeAnswer;
@@ -12,10 +13,11 @@ use questions::attribute::attribute;
 use questions::attribute::attribute_code;
 use questions::ignore::ignore;
 use questions::ignore::ignore_code;
+use rulefiles::Place;
 
 // Puts the entry's length, the file and the line into the first three entries, if there are so many.
 fn put_decided(decided: Decided, out: &mut [usize])
-    ensures { λ _. ⌜ now (out .exit) ≡ put (decided .length ∷ placeNumbers (decided .place)) (now (out .entry)) ⌝ }
+    ensures { λ _. ⌜ now (out .exit) ≡ put (decided .length ∷ placeValues (decided .place)) (now (out .entry)) ⌝ }
 {
     if out.len() < 3 {
         return;
@@ -26,9 +28,9 @@ fn put_decided(decided: Decided, out: &mut [usize])
     out[2] = place.line;
 }
 
-// Puts what an answer of the ignore question says, if it says anything.
+// Puts the values of an answer of the ignore question, if it has any.
 fn put_ignore(answer: IgnoreAnswer, out: &mut [usize])
-    ensures { λ _. ⌜ now (out .exit) ≡ put (ignoreNumbers answer) (now (out .entry)) ⌝ }
+    ensures { λ _. ⌜ now (out .exit) ≡ put (completeIgnore answer .values) (now (out .entry)) ⌝ }
 {
     match answer {
         IgnoreAnswer::Nothing => {}
@@ -38,46 +40,54 @@ fn put_ignore(answer: IgnoreAnswer, out: &mut [usize])
     }
 }
 
-// A value's place; two zeros where the state is no value.
-fn value_span(state: State) -> Span
-    ensures { λ r. ⌜ r ≡ valueSpan state ⌝ }
+// Puts the file and the line into the first two entries, if there are so many.
+fn put_place(place: Place, out: &mut [usize])
+    ensures { λ _. ⌜ now (out .exit) ≡ put (placeValues place) (now (out .entry)) ⌝ }
 {
-    match state {
-        State::Set => Span {
-            start: 0,
-            length: 0,
-        },
-        State::Unset => Span {
-            start: 0,
-            length: 0,
-        },
-        State::Value(span) => span,
-        State::Unspecified => Span {
-            start: 0,
-            length: 0,
-        },
+    if out.len() < 2 {
+        return;
     }
+    out[0] = place.file;
+    out[1] = place.line;
 }
 
-// Puts the value's start and length, the file and the line into the first four entries, if there are so many.
-fn put_spoken(spoken: Spoken, out: &mut [usize])
-    ensures { λ _. ⌜ now (out .exit) ≡ put (spokenNumbers (valueSpan (spoken .state)) (spoken .place)) (now (out .entry)) ⌝ }
+// Puts a value's start and length, the file and the line into the first four entries, if there are so many.
+fn put_value(value: Span, place: Place, out: &mut [usize])
+    ensures { λ _. ⌜ now (out .exit) ≡ put (value .start ∷ value .length ∷ placeValues place) (now (out .entry)) ⌝ }
 {
     if out.len() < 4 {
         return;
     }
-    let state = spoken.state;
-    let place = spoken.place;
-    let span = value_span(state);
-    out[0] = span.start;
-    out[1] = span.length;
+    out[0] = value.start;
+    out[1] = value.length;
     out[2] = place.file;
     out[3] = place.line;
 }
 
-// Puts what an answer of the attribute question says, if it says anything.
+// Puts the values of a state and its place.
+fn put_stated(state: State, place: Place, out: &mut [usize])
+    ensures { λ _. ⌜ now (out .exit) ≡ put (stateValues state ++ placeValues place) (now (out .entry)) ⌝ }
+{
+    match state {
+        State::Set => put_place(place, out),
+        State::Unset => put_place(place, out),
+        State::Value(value) => put_value(value, place, out),
+        State::Unspecified => put_place(place, out),
+    }
+}
+
+// The same of what a line said.
+fn put_spoken(spoken: Spoken, out: &mut [usize])
+    ensures { λ _. ⌜ now (out .exit) ≡ put (stateValues (spoken .state) ++ placeValues (spoken .place)) (now (out .entry)) ⌝ }
+{
+    let state = spoken.state;
+    let place = spoken.place;
+    put_stated(state, place, out);
+}
+
+// Puts the values of an answer of the attribute question, if it has any.
 fn put_attribute(answer: AttributeAnswer, out: &mut [usize])
-    ensures { λ _. ⌜ now (out .exit) ≡ put (attributeNumbers answer) (now (out .entry)) ⌝ }
+    ensures { λ _. ⌜ now (out .exit) ≡ put (completeAttribute answer .values) (now (out .entry)) ⌝ }
 {
     match answer {
         AttributeAnswer::Nothing => {}
@@ -104,8 +114,8 @@ pub extern "C" fn prober_ignore(
     ignore_code(answer)
 }
 
-// The attribute question. Where something is said, the first four entries of `out` become the value's start and length (two
-// zeros where the state is no value), the file and the line; else, and where it has fewer, it is left as it was.
+// The attribute question. Where a value is said, the first four entries of `out` become its start and length, the file and the line;
+// where another state is said, the first two become the file and the line; else, and where it has fewer, it is left as it was.
 #[no_mangle]
 pub extern "C" fn prober_attribute(
     path: &[u8],

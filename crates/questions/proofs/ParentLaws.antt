@@ -14,11 +14,10 @@ use Rattle.rulefiles.proofs.LastLaws.{joined-assoc}
 use Rattle.entries.specs.Entries.{Entry, has, componentStart}
 use Rattle.entries.proofs.ByteLaws.{After, start-place}
 use Rattle.ignorelines.specs.IgnoreLines.{Verdict, ignored, re-included}
-use Rattle.questions.specs.Verdicts.{parentsFrom, parents, ignores, answerAt, judged, topDown}
+use Rattle.questions.specs.Complete.{Complete, decided}
+use Rattle.questions.specs.Verdicts.{parentsFrom, parents, ignores, judged, topDown}
 use Rattle.questions.specs.Scan.{ignoredAt, firstIgnored}
 use Rattle.questions.specs.declared.Decided.{Decided}
-use Rattle.questions.specs.declared.IgnoreAnswer.{IgnoreAnswer}
-use Rattle.questions.specs.declared.IgnoreAnswer.the-variants.{Nothing, Ignored, Reincluded, Refused}
 use Rattle.questions.proofs.VerdictLaws.{entryOf}
 
 -- no `/`, no parents
@@ -80,9 +79,9 @@ module _ (v : Entry → Option (Decision Verdict)) where
       ∙ rw (length-take-le n s (p .0), sym q))
 
   -- where the parents have no answer, the entry's own verdict is it
-  abbrev pub answerOr : Option Decided → IgnoreAnswer → IgnoreAnswer
+  abbrev pub answerOr : Option Decided → Complete → Complete
   answerOr none a = a
-  answerOr (some d) a = Ignored d
+  answerOr (some d) a = decided ignored (d .length) (d .place)
 
   pub top-down : (ps : List Entry) (e : Entry) → answerOr (firstIgnored v ps) (judged (length (e .bytes)) (v e)) ≡ topDown v ps e
   top-down [] e = refl
@@ -97,29 +96,3 @@ module _ (v : Entry → Option (Decision Verdict)) where
           → answerOr (joined (firstIgnored v ps) (ignoredAt (length (p .bytes)) o)) (judged (length (e .bytes)) (v e)) ≡ cond (ignores o) (judged (length (p .bytes)) o) (topDown v ps e)
       go none h = h
       go (some d) h = by (d .what) d refl h
-
--- an accepted question's answer is no refusal
-abbrev refuses : IgnoreAnswer → Bool
-refuses Nothing = false
-refuses (Ignored d) = false
-refuses (Reincluded d) = false
-refuses (Refused n) = true
-
-judged-calm : (n : ℕ) (o : Option (Decision Verdict)) → refuses (judged n o) ≡ false
-judged-calm n none = refl
-judged-calm n (some d) = go (d .what)
-  where
-    go : (w : Verdict) → refuses (answerAt w (record { length = n; place = d .place })) ≡ false
-    go ignored = refl
-    go re-included = refl
-
-calm : (v : Entry → Option (Decision Verdict)) (ps : List Entry) (e : Entry) → refuses (topDown v ps e) ≡ false
-calm v [] e = judged-calm (length (e .bytes)) (v e)
-calm v (p ∷ ps) e = go (ignores (v p)) (judged-calm (length (p .bytes)) (v p)) (calm v ps e)
-  where
-    go : (b : Bool) → refuses (judged (length (p .bytes)) (v p)) ≡ false → refuses (topDown v ps e) ≡ false → refuses (cond b (judged (length (p .bytes)) (v p)) (topDown v ps e)) ≡ false
-    go true x y = x
-    go false x y = y
-
-pub never-refused : (v : Entry → Option (Decision Verdict)) (ps : List Entry) (e : Entry) (n : ℕ) → topDown v ps e ≡ Refused n → ⊥
-never-refused v ps e n h = false≢true (sym (calm v ps e) ∙ ap refuses h)

@@ -11,9 +11,7 @@ use Rattle.entries.specs.Entries.{Entry}
 use Rattle.ignorelines.specs.IgnoreLines.{Verdict, ignored, re-included, ignoreWord}
 use Rattle.attributelines.specs.AttributeLines.{attributeWord}
 use Rattle.attributelines.specs.declared.State.{State}
-use Rattle.questions.specs.declared.Decided.{Decided}
-use Rattle.questions.specs.declared.IgnoreAnswer.{IgnoreAnswer}
-use Rattle.questions.specs.declared.IgnoreAnswer.the-variants.{Nothing, Ignored, Reincluded}
+use Rattle.questions.specs.Complete.{Complete, nothingSaid, decided}
 
 -- "Its verdict is that of the last applicable matching line: ignored or, negated, re-included; else nothing said."
 unfoldable pub verdict : Bool → List Line → Entry → Option (Decision Verdict)
@@ -43,19 +41,14 @@ abbrev pub ignores : Option (Decision Verdict) → Bool
 ignores none = false
 ignores (some d) = isIgnored (d .what)
 
--- the answer with this verdict
-abbrev pub answerAt : Verdict → Decided → IgnoreAnswer
-answerAt ignored d = Ignored d
-answerAt re-included d = Reincluded d
-
 -- the answer that the verdict of an entry of n bytes gives: "the path's length, the file and the line"; "nothing said gives no numbers"
-abbrev pub judged : ℕ → Option (Decision Verdict) → IgnoreAnswer
-judged n none = Nothing
-judged n (some d) = answerAt (d .what) (record { length = n; place = d .place })
+abbrev pub judged : ℕ → Option (Decision Verdict) → Complete
+judged n none = nothingSaid
+judged n (some d) = decided (d .what) n (d .place)
 
 -- "The first ignored entry makes the path ignored, and the answer gives its length, file and line. If no parent is ignored, the path's own
 -- verdict is the answer". The parents from the top down, then the path
-abbrev pub topDown : (Entry → Option (Decision Verdict)) → List Entry → Entry → IgnoreAnswer
+abbrev pub topDown : (Entry → Option (Decision Verdict)) → List Entry → Entry → Complete
 topDown v [] path = judged (length (path .bytes)) (v path)
 topDown v (p ∷ ps) path = cond (ignores (v p)) (judged (length (p .bytes)) (v p)) (topDown v ps path)
 

@@ -1,17 +1,19 @@
 // The attribute question.
 ghost use mathlib.Core.Path.{_≡_};
-ghost use Rattle.questions.specs.Answers.{spoken, AttributeAnswered, stateCode, attributeCode};
+ghost use Rattle.questions.specs.Complete.{stateNumber, completeAttribute};
+ghost use Rattle.questions.specs.Answers.{spoken, AttributeAnswered};
 ghost use Rattle.questions.specs.Scan.{heardOf};
 use crate::AttributeAnswer;
 use crate::state::Heard;
 use crate::state::path_heard;
 use attributelines::State;
 use refusals::lowest::attribute_refusal;
-use wildmatch::answer::has_flag;
+use wildmatch::answer::flag_one;
+use wildmatch::answer::flag_two;
 
 // What was heard, as an answer.
 fn spoken(heard: Heard) -> AttributeAnswer
-    ensures { λ r. ⌜ r ≡ spoken (heardOf heard) ⌝ }
+    ensures { λ r. ⌜ completeAttribute r ≡ spoken (heardOf heard) ⌝ }
 {
     match heard {
         Heard::Nothing => AttributeAnswer::Nothing,
@@ -28,7 +30,7 @@ pub fn attribute(
     name: &[u8],
     flags: u64,
 ) -> AttributeAnswer
-    ensures { λ r. ⌜ AttributeAnswered (now (path .entry)) (now (rules .entry)) (now (ends .entry)) (now (bases .entry)) (now (name .entry)) flags r ⌝ }
+    ensures { λ r. ⌜ AttributeAnswered (now (path .entry)) (now (rules .entry)) (now (ends .entry)) (now (bases .entry)) (now (name .entry)) flags (completeAttribute r) ⌝ }
 {
     let refusal = attribute_refusal(path, rules, ends, bases, name, flags);
     if refusal != 0 {
@@ -40,14 +42,14 @@ pub fn attribute(
         bases,
         path,
         name,
-        has_flag(flags, 1),
-        has_flag(flags, 2),
+        flag_one(flags),
+        flag_two(flags),
     ))
 }
 
 // The number that C gets for a state.
 fn state_code(state: State) -> u32
-    ensures { λ r. ⌜ r ≡ stateCode state ⌝ }
+    ensures { λ r. ⌜ r ≡ stateNumber state ⌝ }
 {
     match state {
         State::Set => 1,
@@ -59,7 +61,7 @@ fn state_code(state: State) -> u32
 
 // The number that C gets for an answer.
 pub fn attribute_code(answer: AttributeAnswer) -> u32
-    ensures { λ r. ⌜ r ≡ attributeCode answer ⌝ }
+    ensures { λ r. ⌜ r ≡ completeAttribute answer .number ⌝ }
 {
     match answer {
         AttributeAnswer::Nothing => 0,

@@ -2,7 +2,8 @@
 ghost use mathlib.Core.Path.{_≡_};
 ghost use Rattle.rulefiles.specs.RuleFiles.{orderedLines};
 ghost use Rattle.questions.specs.Verdicts.{verdict, parents, judged, topDown};
-ghost use Rattle.questions.specs.Answers.{IgnoreAnswered, ignoreCode};
+ghost use Rattle.questions.specs.Complete.{completeIgnore};
+ghost use Rattle.questions.specs.Answers.{IgnoreAnswered};
 ghost use Rattle.questions.specs.Scan.{decisionOf, ignoredAt, firstIgnored, aboveOf};
 use crate::Decided;
 use crate::IgnoreAnswer;
@@ -10,7 +11,8 @@ use crate::verdict::Said;
 use crate::verdict::entry_said;
 use entries::component_start;
 use refusals::lowest::ignore_refusal;
-use wildmatch::answer::has_flag;
+use wildmatch::answer::flag_one;
+use wildmatch::answer::flag_two;
 
 // Whether an entry lies under an ignored parent, and what that answers.
 pub enum Above {
@@ -50,7 +52,7 @@ fn ignored_above(rules: &[u8], ends: &[usize], bases: &[usize], entry: &[u8], fo
 
 // What an entry of this length answers by its own verdict.
 fn judge(said: Said, length: usize) -> IgnoreAnswer
-    ensures { λ r. ⌜ r ≡ judged length (decisionOf said) ⌝ }
+    ensures { λ r. ⌜ completeIgnore r ≡ judged length (decisionOf said) ⌝ }
 {
     match said {
         Said::Nothing => IgnoreAnswer::Nothing,
@@ -74,7 +76,7 @@ fn judge_path(
     directory: bool,
     fold: bool,
 ) -> IgnoreAnswer
-    ensures { λ r. ⌜ r ≡ topDown (verdict fold (orderedLines (now (rules .entry)) (now (ends .entry)) (now (bases .entry)))) (parents (now (path .entry))) (record { bytes = now (path .entry); directory = directory }) ⌝ }
+    ensures { λ r. ⌜ completeIgnore r ≡ topDown (verdict fold (orderedLines (now (rules .entry)) (now (ends .entry)) (now (bases .entry)))) (parents (now (path .entry))) (record { bytes = now (path .entry); directory = directory }) ⌝ }
 {
     let above = ignored_above(rules, ends, bases, path, fold);
     match above {
@@ -94,25 +96,18 @@ pub fn ignore(
     bases: &[usize],
     flags: u64,
 ) -> IgnoreAnswer
-    ensures { λ r. ⌜ IgnoreAnswered (now (path .entry)) (now (rules .entry)) (now (ends .entry)) (now (bases .entry)) flags r ⌝ }
+    ensures { λ r. ⌜ IgnoreAnswered (now (path .entry)) (now (rules .entry)) (now (ends .entry)) (now (bases .entry)) flags (completeIgnore r) ⌝ }
 {
     let refusal = ignore_refusal(path, rules, ends, bases, flags);
     if refusal != 0 {
         return IgnoreAnswer::Refused(refusal);
     }
-    judge_path(
-        rules,
-        ends,
-        bases,
-        path,
-        has_flag(flags, 1),
-        has_flag(flags, 2),
-    )
+    judge_path(rules, ends, bases, path, flag_one(flags), flag_two(flags))
 }
 
 // The number that C gets for an answer.
 pub fn ignore_code(answer: IgnoreAnswer) -> u32
-    ensures { λ r. ⌜ r ≡ ignoreCode answer ⌝ }
+    ensures { λ r. ⌜ r ≡ completeIgnore answer .number ⌝ }
 {
     match answer {
         IgnoreAnswer::Nothing => 0,

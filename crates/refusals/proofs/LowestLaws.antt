@@ -3,7 +3,7 @@ use mathlib.Core.Path.{_≡_, refl}
 use mathlib.Core.Logic.{_⊎_, inl, inr, ⊎-elim, _↔_, Iff·rfl}
 use mathlib.Core.Bool.{Bool, true, _&&_}
 use mathlib.Core.List.{List}
-use Prim.Native.Nat.{ℕ, _<_}
+use Prim.Native.Nat.{ℕ, zero, suc, _<_}
 use native.Mathlib.Omega.{arith}
 use lib.Dec.{ltb}
 use borrow.Author.Tests.{ltb-true}
@@ -22,6 +22,16 @@ lowest-one C n k a b =
 pub lowest-refuses : (C : ℕ → Type 0) (n : ℕ) → Lowest C n → Accepted C → ⊥
 unfolding Lowest Accepted
 lowest-refuses C n a b = b n (a .0)
+
+-- where no refusal is the lowest, none holds: the first below a number that held would be the lowest
+none-below : (C : ℕ → Type 0) → ((n : ℕ) → Lowest C n → ⊥) → (m n : ℕ) → n < m → C n → ⊥
+unfolding Lowest
+none-below C none zero n h c = absurd (omega arith)
+none-below C none (suc m) n h c = none n (c, λ k l d. none-below C none m k (omega arith) d)
+
+pub none-lowest : (C : ℕ → Type 0) → ((n : ℕ) → Lowest C n → ⊥) → Accepted C
+unfolding Accepted
+none-lowest C none n c = none-below C none (suc n) n (omega arith) c
 
 -- The tests of a call in their order: what they tell is the lowest refusal.
 

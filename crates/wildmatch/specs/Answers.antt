@@ -2,7 +2,7 @@
 use Prim.Native.Nat.{ℕ, _+_}
 use mathlib.Core.Path.{_≡_}
 use mathlib.Core.Logic.{_↔_}
-use mathlib.Core.Bool.{Bool, true, _||_}
+use mathlib.Core.Bool.{Bool, true, false, cond, _||_}
 use mathlib.Core.List.{List}
 use lib.Dec.{eqb}
 use Rattle.refusals.specs.Refusals.{Lowest, Accepted, MatcherRefuses}
@@ -12,13 +12,21 @@ use Rattle.wildmatch.specs.declared.Mode.{Mode}
 use Rattle.wildmatch.specs.declared.answer.Answer.{Answer}
 use Rattle.wildmatch.specs.declared.answer.Answer.the-variants.{Unmatched, Matched, Refused}
 
--- of two flags in "one number", 1 and 2, this one is set: alone, or with the other
-unfoldable pub hasFlag : ℕ → ℕ → Bool
-hasFlag flags flag = eqb flags flag || eqb flags 3
+-- "Flags are one number": the sum of those of the two flags, 1 and 2, that are given
+abbrev pub sumOf : Bool → Bool → ℕ
+sumOf one two = cond one 1 0 + cond two 2 0
 
--- "Flags are one number: for the matcher 1 = path mode, 2 = fold case"
+-- the flag 1 is in the sum, without the other or with it
+unfoldable pub flagOne : ℕ → Bool
+flagOne flags = eqb flags (sumOf true false) || eqb flags (sumOf true true)
+
+-- the flag 2 is in the sum
+unfoldable pub flagTwo : ℕ → Bool
+flagTwo flags = eqb flags (sumOf false true) || eqb flags (sumOf true true)
+
+-- "for the matcher 1 = path mode, 2 = fold case"
 unfoldable pub modeOf : ℕ → Mode
-modeOf flags = record { path = hasFlag flags 1; fold = hasFlag flags 2 }
+modeOf flags = record { path = flagOne flags; fold = flagTwo flags }
 
 -- without refusals: "it matches exactly when the text is the joining, in order, of what its items may take", as the relation and as
 -- the test that decides it

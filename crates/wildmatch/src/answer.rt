@@ -1,6 +1,6 @@
 // The matcher as it is called from outside: refusals first, then the answer.
 ghost use mathlib.Core.Path.{_≡_};
-ghost use Rattle.wildmatch.specs.Answers.{hasFlag, modeOf, MatchDecided, Answered, codeOf};
+ghost use Rattle.wildmatch.specs.Answers.{flagOne, flagTwo, modeOf, MatchDecided, Answered, codeOf};
 use crate::Mode;
 use crate::matcher::Outcome;
 use crate::matcher::match_items;
@@ -15,11 +15,18 @@ pub enum Answer {
     Refused(u8),
 }
 
-// Whether a flags number has this flag; 3 has both.
-pub fn has_flag(flags: u64, flag: u64) -> bool
-    ensures { λ r. ⌜ r ≡ hasFlag flags flag ⌝ }
+// Whether the flag 1 is in a flags number; 3 has both flags, and a number above it none.
+pub fn flag_one(flags: u64) -> bool
+    ensures { λ r. ⌜ r ≡ flagOne flags ⌝ }
 {
-    flags == flag || flags == 3
+    flags == 1 || flags == 3
+}
+
+// Whether the flag 2 is in it.
+pub fn flag_two(flags: u64) -> bool
+    ensures { λ r. ⌜ r ≡ flagTwo flags ⌝ }
+{
+    flags == 2 || flags == 3
 }
 
 // The modes that a flags number asks for.
@@ -27,8 +34,8 @@ pub fn mode_of(flags: u64) -> Mode
     ensures { λ r. ⌜ r ≡ modeOf flags ⌝ }
 {
     Mode {
-        path: has_flag(flags, 1),
-        fold: has_flag(flags, 2),
+        path: flag_one(flags),
+        fold: flag_two(flags),
     }
 }
 

@@ -1,6 +1,6 @@
 -- One line for each answer.
 use Rattle.prober.proofs.PutLaws.{put-none}
-use Rattle.prober.specs.Probes.{attributeNumbers}
+use Rattle.questions.specs.Complete.{completeAttribute}
 use borrow.Author.Needs.{needs}
 use Rattle.prober.proofs.put_attribute.Statement.{statement}
 use Rattle.prober.proofs.put_attribute.Tie as tie
@@ -18,18 +18,18 @@ enum-told-2 : tie.Need-enum-told-2
 enum-told-2 c = search needs
 
 returns : tie.Need-returns
-unfolding attributeNumbers
+unfolding completeAttribute
 returns c = rw (c .enum-told .given .1) (put-none _)
 
 same-length : tie.Need-same-length
 same-length c = search needs
 
 returns-2 : tie.Need-returns-2
-unfolding attributeNumbers
+unfolding completeAttribute
 returns-2 c = rw (c .before .before .before .before .before .answer .given .1) (c .before .before .put-spoken .ensures)
 
 returns-3 : tie.Need-returns-3
-unfolding attributeNumbers
+unfolding completeAttribute
 returns-3 c = rw (c .enum-told2 .given .1) (put-none _)
 
 pub put-attribute-spec : {M : Type 1} → statement M

@@ -1,6 +1,6 @@
 -- One line for each answer.
 use Rattle.prober.proofs.PutLaws.{put-none}
-use Rattle.prober.specs.Probes.{ignoreNumbers}
+use Rattle.questions.specs.Complete.{completeIgnore}
 use borrow.Author.Needs.{needs}
 use Rattle.prober.proofs.put_ignore.Statement.{statement}
 use Rattle.prober.proofs.put_ignore.Tie as tie
@@ -24,25 +24,25 @@ enum-told-2 : tie.Need-enum-told-2
 enum-told-2 c = search needs
 
 returns : tie.Need-returns
-unfolding ignoreNumbers
+unfolding completeIgnore
 returns c = rw (c .enum-told .given .1) (put-none _)
 
 same-length : tie.Need-same-length
 same-length c = search needs
 
 returns-2 : tie.Need-returns-2
-unfolding ignoreNumbers
+unfolding completeIgnore
 returns-2 c = rw (c .before .before .before .before .before .answer .given .1) (c .before .before .put-decided .ensures)
 
 same-length-2 : tie.Need-same-length-2
 same-length-2 c = search needs
 
 returns-3 : tie.Need-returns-3
-unfolding ignoreNumbers
+unfolding completeIgnore
 returns-3 c = rw (c .before .before .before .before .before .answer2 .given .1) (c .before .before .put-decided2 .ensures)
 
 returns-4 : tie.Need-returns-4
-unfolding ignoreNumbers
+unfolding completeIgnore
 returns-4 c = rw (c .enum-told2 .given .1) (put-none _)
 
 pub put-ignore-spec : {M : Type 1} → statement M

@@ -10,11 +10,11 @@ attribute-refusal-requires c κs = search needs
 returns : tie.Need-returns
 returns c = attribute-refused _ _ _ _ _ _ _ (c .before .attribute-refusal .ensures) (c .if1 .taken)
 
-has-flag-requires : tie.Need-has-flag-requires
-has-flag-requires c κs = search needs
+flag-one-requires : tie.Need-flag-one-requires
+flag-one-requires c κs = search needs
 
-has-flag-requires-2 : tie.Need-has-flag-requires-2
-has-flag-requires-2 c κs = search needs
+flag-two-requires : tie.Need-flag-two-requires
+flag-two-requires c κs = search needs
 
 path-heard-requires : tie.Need-path-heard-requires
 path-heard-requires c κs = search needs
@@ -23,7 +23,7 @@ spoken-requires : tie.Need-spoken-requires
 spoken-requires c κs = search needs
 
 returns-2 : tie.Need-returns-2
-returns-2 c = attribute-answered _ _ _ _ _ _ _ _ _ _ _ (c .before .before .before .before .before .attribute-refusal .ensures) (c .before .before .before .before .if1 .left) (c .before .before .before .has-flag .ensures) (c .before .before .has-flag2 .ensures) (c .before .path-heard .ensures) (c .spoken .ensures)
+returns-2 c = attribute-answered _ _ _ _ _ _ _ _ _ _ _ (c .before .before .before .before .before .attribute-refusal .ensures) (c .before .before .before .before .if1 .left) (c .before .before .before .flag-one .ensures) (c .before .before .flag-two .ensures) (c .before .path-heard .ensures) (c .spoken .ensures)
 
 pub attribute-spec : {M : Type 1} → statement M
 attribute-spec =
@@ -31,8 +31,8 @@ attribute-spec =
     (tie.spec
     attribute-refusal-requires
     returns
-    has-flag-requires
-    has-flag-requires-2
+    flag-one-requires
+    flag-two-requires
     path-heard-requires
     spoken-requires
     returns-2)

@@ -1,5 +1,5 @@
 -- `questions::attribute::attribute_code` meets its contract: the paper's number for each answer.
-use Rattle.questions.specs.Answers.{attributeCode}
+use Rattle.questions.specs.Complete.{completeAttribute}
 use borrow.Author.Needs.{needs}
 use Rattle.questions.proofs.attribute.attribute_code.Statement.{statement}
 use Rattle.questions.proofs.attribute.attribute_code.Tie as tie
@@ -23,15 +23,15 @@ add-result : tie.Need-add-result
 add-result c = search needs
 
 returns : tie.Need-returns
-unfolding attributeCode
+unfolding completeAttribute
 returns c = rw (c .enum-told .given .1)
 
 returns-2 : tie.Need-returns-2
-unfolding attributeCode
+unfolding completeAttribute
 returns-2 c = rw (c .before .before .answer .given .1) (c .state-code .ensures)
 
 returns-3 : tie.Need-returns-3
-unfolding attributeCode
+unfolding completeAttribute
 returns-3 c = rw (c .before .answer2 .given .1)
 
 pub attribute-code-spec : {M : Type 1} → statement M

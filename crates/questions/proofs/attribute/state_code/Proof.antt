@@ -1,5 +1,5 @@
 -- `questions::attribute::state_code` meets its contract: the paper's number for each state.
-use Rattle.questions.specs.Answers.{stateCode}
+use Rattle.questions.specs.Complete.{stateNumber}
 use borrow.Author.Needs.{needs}
 use Rattle.questions.proofs.attribute.state_code.Statement.{statement}
 use Rattle.questions.proofs.attribute.state_code.Tie as tie
@@ -17,19 +17,19 @@ enum-told-4 : tie.Need-enum-told-4
 enum-told-4 c = search needs
 
 returns : tie.Need-returns
-unfolding stateCode
+unfolding stateNumber
 returns c = rw (c .enum-told .given .1)
 
 returns-2 : tie.Need-returns-2
-unfolding stateCode
+unfolding stateNumber
 returns-2 c = rw (c .enum-told2 .given .1)
 
 returns-3 : tie.Need-returns-3
-unfolding stateCode
+unfolding stateNumber
 returns-3 c = rw (c .enum-told3 .given .1)
 
 returns-4 : tie.Need-returns-4
-unfolding stateCode
+unfolding stateNumber
 returns-4 c = rw (c .enum-told4 .given .1)
 
 pub state-code-spec : {M : Type 1} → statement M

@@ -10,17 +10,17 @@ ignore-refusal-requires c κs = search needs
 returns : tie.Need-returns
 returns c = ignore-refused _ _ _ _ _ _ (c .before .ignore-refusal .ensures) (c .if1 .taken)
 
-has-flag-requires : tie.Need-has-flag-requires
-has-flag-requires c κs = search needs
+flag-one-requires : tie.Need-flag-one-requires
+flag-one-requires c κs = search needs
 
-has-flag-requires-2 : tie.Need-has-flag-requires-2
-has-flag-requires-2 c κs = search needs
+flag-two-requires : tie.Need-flag-two-requires
+flag-two-requires c κs = search needs
 
 judge-path-requires : tie.Need-judge-path-requires
 judge-path-requires c κs = search needs
 
 returns-2 : tie.Need-returns-2
-returns-2 c = ignore-answered _ _ _ _ _ _ _ _ _ (c .before .before .before .before .ignore-refusal .ensures) (c .before .before .before .if1 .left) (c .before .before .has-flag .ensures) (c .before .has-flag2 .ensures) (c .judge-path .ensures)
+returns-2 c = ignore-answered _ _ _ _ _ _ _ _ _ (c .before .before .before .before .ignore-refusal .ensures) (c .before .before .before .if1 .left) (c .before .before .flag-one .ensures) (c .before .flag-two .ensures) (c .judge-path .ensures)
 
 pub ignore-spec : {M : Type 1} → statement M
 ignore-spec =
@@ -28,7 +28,7 @@ ignore-spec =
     (tie.spec
     ignore-refusal-requires
     returns
-    has-flag-requires
-    has-flag-requires-2
+    flag-one-requires
+    flag-two-requires
     judge-path-requires
     returns-2)

@@ -1,5 +1,5 @@
 -- `questions::ignore::ignore_code` meets its contract: the paper's number for each answer.
-use Rattle.questions.specs.Answers.{ignoreCode}
+use Rattle.questions.specs.Complete.{completeIgnore}
 use borrow.Author.Needs.{needs}
 use Rattle.questions.proofs.ignore.ignore_code.Statement.{statement}
 use Rattle.questions.proofs.ignore.ignore_code.Tie as tie
@@ -23,19 +23,19 @@ add-result : tie.Need-add-result
 add-result c = search needs
 
 returns : tie.Need-returns
-unfolding ignoreCode
+unfolding completeIgnore
 returns c = rw (c .enum-told .given .1)
 
 returns-2 : tie.Need-returns-2
-unfolding ignoreCode
+unfolding completeIgnore
 returns-2 c = rw (c .enum-told2 .given .1)
 
 returns-3 : tie.Need-returns-3
-unfolding ignoreCode
+unfolding completeIgnore
 returns-3 c = rw (c .enum-told3 .given .1)
 
 returns-4 : tie.Need-returns-4
-unfolding ignoreCode
+unfolding completeIgnore
 returns-4 c = rw (c .before .answer .given .1)
 
 pub ignore-code-spec : {M : Type 1} → statement M

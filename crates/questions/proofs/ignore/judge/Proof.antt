@@ -1,4 +1,5 @@
 -- `questions::ignore::judge` meets its contract: the answer has the verdict, the length and the place.
+use Rattle.questions.specs.Complete.{completeIgnore}
 use borrow.Author.Needs.{needs}
 use Rattle.questions.proofs.ignore.judge.Statement.{statement}
 use Rattle.questions.proofs.ignore.judge.Tie as tie
@@ -13,12 +14,15 @@ enum-known-said-2 : tie.Need-enum-known-said-2
 enum-known-said-2 c = search needs
 
 returns : tie.Need-returns
-returns c = search needs
+unfolding completeIgnore
+returns c = rw (c .enum-told .given .1)
 
 returns-2 : tie.Need-returns-2
+unfolding completeIgnore
 returns-2 c = rw (c .before .said .given .1)
 
 returns-3 : tie.Need-returns-3
+unfolding completeIgnore
 returns-3 c = rw (c .before .said2 .given .1)
 
 pub judge-spec : {M : Type 1} → statement M

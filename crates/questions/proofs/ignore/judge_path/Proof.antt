@@ -5,6 +5,7 @@ use denote.Ref.{now}
 use lib.ListN.{length}
 use Rattle.rulefiles.specs.RuleFiles.{orderedLines}
 use Rattle.questions.specs.Verdicts.{verdict, parents, judged}
+use Rattle.questions.specs.Complete.{completeIgnore}
 use Rattle.questions.specs.Scan.{aboveOf}
 use Rattle.questions.specs.declared.Decided.{Decided}
 use Rattle.questions.specs.declared.ignore.Above.{Above}
@@ -30,6 +31,7 @@ judge-requires : tie.Need-judge-requires
 judge-requires c κs = search needs
 
 returns : tie.Need-returns
+unfolding completeIgnore
 returns c =
     let u = c .before .before .before in
     let a = u .before .before .before .before .before .args in

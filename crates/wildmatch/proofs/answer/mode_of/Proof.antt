@@ -4,15 +4,15 @@ use borrow.Author.Needs.{needs}
 use Rattle.wildmatch.proofs.answer.mode_of.Statement.{statement}
 use Rattle.wildmatch.proofs.answer.mode_of.Tie as tie
 
-has-flag-requires : tie.Need-has-flag-requires
-has-flag-requires c κs = search needs
+flag-one-requires : tie.Need-flag-one-requires
+flag-one-requires c κs = search needs
 
-has-flag-requires-2 : tie.Need-has-flag-requires-2
-has-flag-requires-2 c κs = search needs
+flag-two-requires : tie.Need-flag-two-requires
+flag-two-requires c κs = search needs
 
 returns : tie.Need-returns
 unfolding modeOf
-returns c = rw (c .before .has-flag .ensures, c .has-flag2 .ensures) (search needs)
+returns c = rw (c .before .flag-one .ensures, c .flag-two .ensures) (search needs)
 
 pub mode-of-spec : {M : Type 1} → statement M
-mode-of-spec = tie.close (tie.spec has-flag-requires has-flag-requires-2 returns)
+mode-of-spec = tie.close (tie.spec flag-one-requires flag-two-requires returns)
