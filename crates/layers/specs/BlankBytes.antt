@@ -1,15 +1,21 @@
 -- Overwriting the bytes of one file: each byte stays or becomes a space.
-use Prim.Native.Nat.{ℕ, suc}
-use mathlib.Core.Path.{_≡_, refl, ap, _∙_}
+use Prim.Native.Nat.{ℕ, suc, _+_}
+use mathlib.Core.Path.{_≡_, refl, sym, ap, subst, _∙_}
 use mathlib.Core.Logic.{_⊎_, inl, inr, ⊎-elim}
 use mathlib.Core.Bool.{Bool, true, false, _&&_, and-false}
-use mathlib.Core.List.{List, [], _∷_, List·Memᴰ, List·Memᴰ·head, List·Memᴰ·tail, List·Memᴰ·cases-cons}
+use mathlib.Core.List.{List, [], _∷_, _++_, List·Memᴰ, List·Memᴰ·head, List·Memᴰ·tail, List·Memᴰ·cases-cons, List·Memᴰ·append-cases, Memᴰ·append-left, Memᴰ·append-right}
 use native.Mathlib.Omega.{arith}
 use lib.Dec.{eqb}
-use lib.ListN.{length, drop}
+use lib.ListN.{length, take, drop, length-append, take-append-drop}
 use Rattle.rulefiles.specs.RuleFiles.{hasBom, bomLength}
 use Rattle.entries.specs.Entries.{isEmpty}
 use Rattle.layers.specs.Blanking.{overwritten, blankedFile}
+
+pub member-take : (n : ℕ) (s : List ℕ) (x : ℕ) → List·Memᴰ x (take n s) → List·Memᴰ x s
+member-take n s x m = subst (List·Memᴰ x) (take-append-drop n s) (Memᴰ·append-left (drop n s) m)
+
+pub member-drop : (n : ℕ) (s : List ℕ) (x : ℕ) → List·Memᴰ x (drop n s) → List·Memᴰ x s
+member-drop n s x m = subst (List·Memᴰ x) (take-append-drop n s) (Memᴰ·append-right (take n s) m)
 
 module _ (chosen : ℕ → Bool) where
   -- the first byte, and the rest from some line on
@@ -58,17 +64,33 @@ module _ (chosen : ℕ → Bool) where
       ap hasBom (f .2 ∙ ap {B = List ℕ} (λ (r : List ℕ). f .0 ∷ r) (g .2 ∙ ap {B = List ℕ} (λ (r : List ℕ). g .0 ∷ r) (k .2)))
       ∙ bom-from a b c (f .0) (g .0) (k .0) (f .3) (g .3) (k .3) h
 
-  -- the file's bytes: a file without a line stays
-  pub blanked-or-not : (s : List ℕ) → (blankedFile chosen s ≡ s) ⊎ ((isEmpty (drop (bomLength s) s) ≡ false) × (blankedFile chosen s ≡ overwritten chosen 1 s))
-  unfolding blankedFile
-  blanked-or-not s = go (isEmpty (drop (bomLength s) s)) refl
-    where
-      go : (b : Bool) → isEmpty (drop (bomLength s) s) ≡ b → (blankedFile chosen s ≡ s) ⊎ ((isEmpty (drop (bomLength s) s) ≡ false) × (blankedFile chosen s ≡ overwritten chosen 1 s))
-      go true e = inl (rw e)
-      go false e = inr (e, rw e)
+  -- the file's bytes: with its BOM, or behind it
+  module _ (bom : Bool) where
+    pub with-or-behind : (s : List ℕ)
+        → ((isEmpty (drop (bomLength s) s) ≡ false) × (blankedFile chosen bom s ≡ overwritten chosen 1 s))
+        ⊎ (blankedFile chosen bom s ≡ take (bomLength s) s ++ overwritten chosen 1 (drop (bomLength s) s))
+    unfolding blankedFile
+    with-or-behind s = go bom (isEmpty (drop (bomLength s) s)) refl refl
+      where
+        go : (b e : Bool) → bom ≡ b → isEmpty (drop (bomLength s) s) ≡ e
+            → ((isEmpty (drop (bomLength s) s) ≡ false) × (blankedFile chosen bom s ≡ overwritten chosen 1 s))
+            ⊎ (blankedFile chosen bom s ≡ take (bomLength s) s ++ overwritten chosen 1 (drop (bomLength s) s))
+        go true false p q = inl (q, rw (p, q))
+        go true true p q = inr (rw (p, q))
+        go false e p q = inr (rw p)
 
-  pub length-blanked : (s : List ℕ) → length (blankedFile chosen s) ≡ length s
-  length-blanked s = ⊎-elim (λ e. ap length e) (λ w. ap length (w .1) ∙ length-overwritten 1 s) (blanked-or-not s)
+    pub length-blanked : (s : List ℕ) → length (blankedFile chosen bom s) ≡ length s
+    length-blanked s =
+        ⊎-elim (λ w. ap length (w .1) ∙ length-overwritten 1 s)
+        (λ e.
+        ap length e ∙ length-append (take (bomLength s) s) (overwritten chosen 1 (drop (bomLength s) s))
+        ∙ ap (λ (n : ℕ). length (take (bomLength s) s) + n) (length-overwritten 1 (drop (bomLength s) s))
+        ∙ sym (length-append (take (bomLength s) s) (drop (bomLength s) s))
+        ∙ ap length (take-append-drop (bomLength s) s)) (with-or-behind s)
 
-  pub zero-blanked : (s : List ℕ) → List·Memᴰ 0 (blankedFile chosen s) → List·Memᴰ 0 s
-  zero-blanked s m = ⊎-elim (λ e. rw e at m) (λ w. zero-overwritten 1 s (rw (w .1) at m)) (blanked-or-not s)
+    pub zero-blanked : (s : List ℕ) → List·Memᴰ 0 (blankedFile chosen bom s) → List·Memᴰ 0 s
+    zero-blanked s m =
+        ⊎-elim (λ w. zero-overwritten 1 s (rw (w .1) at m))
+        (λ e.
+        ⊎-elim (λ a. member-take (bomLength s) s 0 a) (λ a. member-drop (bomLength s) s 0 (zero-overwritten 1 (drop (bomLength s) s) a))
+        (List·Memᴰ·append-cases (take (bomLength s) s) (rw e at m))) (with-or-behind s)

@@ -2,7 +2,7 @@
 use Prim.Native.Nat.{ℕ, suc, _+_, _-_, _≤_, _<_}
 use mathlib.Core.Path.{_≡_, refl, sym, ap, subst, _∙_}
 use mathlib.Core.Logic.{⊎-elim}
-use mathlib.Core.List.{List, [], _∷_, _++_, append-assoc, map, List·Memᴰ, List·Memᴰ·not-nil, List·Memᴰ·append-cases, Memᴰ·append-left, Memᴰ·append-right}
+use mathlib.Core.List.{List, [], _∷_, _++_, append-assoc, map, List·Memᴰ, List·Memᴰ·not-nil, List·Memᴰ·append-cases}
 use native.Mathlib.Omega.{arith}
 use lib.ListN.{length, take, drop, length-append, length-drop, take-append-drop}
 use lib.Seq.{length-take-le, take-at, drop-at}
@@ -10,7 +10,7 @@ use Rattle.rulefiles.specs.RuleFiles.{File, part, filesFrom, files, linesOfAll,
 use Rattle.refusals.specs.Questions.{EndBelow, lastEnd}
 use Rattle.layers.specs.Blanking.{Choice, blankedFile, blankedFiles, blanked}
 use Rattle.layers.specs.Kept.{Alike, alike-nil, alike-append}
-use Rattle.layers.specs.BlankBytes.{length-blanked, zero-blanked}
+use Rattle.layers.specs.BlankBytes.{member-take, member-drop, length-blanked, zero-blanked}
 use Rattle.layers.specs.BlankLines.{blankOne, alike-file}
 
 -- What refusal 2 leaves: from a start on the ends rise, and the last is the buffer's length.
@@ -38,12 +38,6 @@ length-part : (start end : ℕ) (rules : List ℕ) → start ≤ end → end ≤
 unfolding part
 length-part start end rules s e = length-take-le (end - start) (drop start rules) (rw (length-drop start rules) (omega arith))
 
-member-take : (n : ℕ) (s : List ℕ) (x : ℕ) → List·Memᴰ x (take n s) → List·Memᴰ x s
-member-take n s x m = subst (List·Memᴰ x) (take-append-drop n s) (Memᴰ·append-left (drop n s) m)
-
-member-drop : (n : ℕ) (s : List ℕ) (x : ℕ) → List·Memᴰ x (drop n s) → List·Memᴰ x s
-member-drop n s x m = subst (List·Memᴰ x) (take-append-drop n s) (Memᴰ·append-right (take n s) m)
-
 zero-part : (start end : ℕ) (rules : List ℕ) → List·Memᴰ 0 (part start end rules) → List·Memᴰ 0 rules
 unfolding part
 zero-part start end rules m = member-drop start rules 0 (member-take (end - start) (drop start rules) 0 m)
@@ -54,8 +48,8 @@ first-part start end before first rest b f = ap (take (end - start)) (drop-at be
 
 module _ (chosen : Choice) (rules : List ℕ) where
   -- a file blanked is as long as its part of the buffer
-  length-file : (number start end : ℕ) → start ≤ end → end ≤ length rules → length (blankedFile (chosen number) (part start end rules)) ≡ end - start
-  length-file number start end s e = length-blanked (chosen number) (part start end rules) ∙ length-part start end rules s e
+  length-file : (number start end : ℕ) → start ≤ end → end ≤ length rules → length (blankedFile (chosen .line number) (chosen .bom number) (part start end rules)) ≡ end - start
+  length-file number start end s e = length-blanked (chosen .line number) (chosen .bom number) (part start end rules) ∙ length-part start end rules s e
 
   length-files : (number start : ℕ) (ends bases : List ℕ) → length ends ≡ length bases → Rising start ends (length rules)
       → start + length (blankedFiles chosen (filesFrom number start rules ends bases)) ≡ length rules
@@ -73,7 +67,7 @@ module _ (chosen : Choice) (rules : List ℕ) where
   files-again number start [] bases before h r b = refl
   files-again number start (end ∷ ends) [] before h r b = refl
   files-again number start (end ∷ ends) (base ∷ bases) before h r b =
-      let first : List ℕ = blankedFile (chosen number) (part start end rules) in
+      let first : List ℕ = blankedFile (chosen .line number) (chosen .bom number) (part start end rules) in
       let rest : List ℕ = blankedFiles chosen (filesFrom (suc number) end rules ends bases) in
       let long : length first ≡ end - start = length-file number start end (r .0) (rising-le end (length rules) ends (r .1)) in
       let tail = files-again (suc number) end ends bases (before ++ first) (omega (arith, h)) (r .1) (length-append before first ∙ omega (arith, long, b, r .0)) in
@@ -86,8 +80,8 @@ module _ (chosen : Choice) (rules : List ℕ) where
   zero-files number start [] bases m = absurd (List·Memᴰ·not-nil m)
   zero-files number start (end ∷ ends) [] m = absurd (List·Memᴰ·not-nil m)
   zero-files number start (end ∷ ends) (base ∷ bases) m =
-      ⊎-elim (λ a. zero-part start end rules (zero-blanked (chosen number) (part start end rules) a)) (λ a. zero-files (suc number) end ends bases a)
-      (List·Memᴰ·append-cases (blankedFile (chosen number) (part start end rules)) m)
+      ⊎-elim (λ a. zero-part start end rules (zero-blanked (chosen .line number) (chosen .bom number) (part start end rules) a)) (λ a. zero-files (suc number) end ends bases a)
+      (List·Memᴰ·append-cases (blankedFile (chosen .line number) (chosen .bom number) (part start end rules)) m)
 
 -- The whole buffer.
 

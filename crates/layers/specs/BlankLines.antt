@@ -3,17 +3,17 @@ use Prim.Native.Nat.{ℕ, suc, _+_}
 use mathlib.Core.Path.{_≡_, refl, sym, ap, subst, _∙_}
 use mathlib.Core.Logic.{⊎-elim}
 use mathlib.Core.Bool.{Bool, true, false, cond, _&&_, false≢true}
-use mathlib.Core.List.{List, [], _∷_, List·Memᴰ, List·Memᴰ·head, List·Memᴰ·tail, List·Memᴰ·not-nil, List·Memᴰ·cases-cons, cons≢nil}
+use mathlib.Core.List.{List, [], _∷_, _++_, cons≢nil}
 use native.Mathlib.Omega.{arith}
 use lib.Dec.{eqb}
-use lib.ListN.{length, drop}
+use lib.ListN.{length, take, drop}
 use borrow.Author.Tests.{eqb-true}
 use Rattle.rulefiles.specs.RuleFiles.{File, Line, onto, split, hasBom, bomLength, linesFrom, linesOf}
 use Rattle.entries.specs.Entries.{isEmpty}
 use Rattle.layers.specs.Blanking.{Choice, overwritten, blankedFile}
 use Rattle.layers.specs.SpaceLines.{spaces, length-spaces}
-use Rattle.layers.specs.Kept.{Blank, Alike, alike-nil, alike-same, alike-blank, alike-refl}
-use Rattle.layers.specs.BlankBytes.{bom-overwritten, blanked-or-not}
+use Rattle.layers.specs.Kept.{Blank, Alike, alike-nil, alike-same, alike-blank}
+use Rattle.layers.specs.BlankBytes.{bom-overwritten, with-or-behind}
 
 -- the raw lines of a file from its line n on, the chosen ones as spaces
 abbrev pub blankLines : (ℕ → Bool) → ℕ → List (List ℕ) → List (List ℕ)
@@ -49,16 +49,6 @@ module _ (chosen : ℕ → Bool) where
       go true e next same = simp (e, next, empty-line)
       go false e next same = rw (e, no-newline (chosen n) b e, same) (onto-blank n b (split s))
 
-  -- refusal 5: the lines are as long as before
-  pub blank-line : (n : ℕ) (ls : List (List ℕ)) (l : List ℕ) → List·Memᴰ l (blankLines chosen n ls) → (r : List ℕ) × List·Memᴰ r ls × (length l ≡ length r)
-  blank-line n [] l m = absurd (List·Memᴰ·not-nil m)
-  blank-line n (x ∷ ls) l m =
-      ⊎-elim (λ e. (x, List·Memᴰ·head refl, ap length e ∙ long (chosen n))) (λ r. let w = blank-line (suc n) ls l r in (w .0, List·Memᴰ·tail (w .1), w .2)) (List·Memᴰ·cases-cons m)
-    where
-      long : (c : Bool) → length (cond c (spaces x) x) ≡ length x
-      long true = length-spaces x
-      long false = refl
-
 -- bytes have a first line
 split-some : (s : List ℕ) → isEmpty s ≡ false → split s ≡ [] → ⊥
 unfolding split
@@ -73,33 +63,33 @@ split-some (b ∷ s) h e = go (eqb b 10) (split s) e
 -- The lines with their places.
 
 module _ (chosen : Choice) (file base : ℕ) where
-  blank-at : (n start again : ℕ) (l raw : List ℕ) → chosen file n ≡ true
+  blank-at : (n start again : ℕ) (l raw : List ℕ) → chosen .line file n ≡ true
       → Blank chosen (record { file = file; number = n; base = base; start = start; bytes = l }) (record { file = file; number = n; base = base; start = again; bytes = spaces raw })
   blank-at n start again l raw e = record { was-chosen = e; same-file = refl; same-number = refl; same-base = refl; raw = raw; all-spaces = refl }
 
   -- `again` is the start, perhaps written in another way
-  alike-lines : (n start again : ℕ) → again ≡ start → (ls : List (List ℕ)) → Alike chosen (linesFrom file base n start ls) (linesFrom file base n again (blankLines (chosen file) n ls))
+  alike-lines : (n start again : ℕ) → again ≡ start → (ls : List (List ℕ)) → Alike chosen (linesFrom file base n start ls) (linesFrom file base n again (blankLines (chosen .line file) n ls))
   alike-lines n start again h [] = alike-nil
-  alike-lines n start again h (l ∷ ls) = go (chosen file n) refl (λ k e. alike-lines (suc n) (start + length l + 1) k e ls)
+  alike-lines n start again h (l ∷ ls) = go (chosen .line file n) refl (λ k e. alike-lines (suc n) (start + length l + 1) k e ls)
     where
-      go : (c : Bool) → chosen file n ≡ c
-          → ((k : ℕ) → k ≡ start + length l + 1 → Alike chosen (linesFrom file base (suc n) (start + length l + 1) ls) (linesFrom file base (suc n) k (blankLines (chosen file) (suc n) ls)))
-          → Alike chosen (linesFrom file base n start (l ∷ ls)) (linesFrom file base n again (cond c (spaces l) l ∷ blankLines (chosen file) (suc n) ls))
+      go : (c : Bool) → chosen .line file n ≡ c
+          → ((k : ℕ) → k ≡ start + length l + 1 → Alike chosen (linesFrom file base (suc n) (start + length l + 1) ls) (linesFrom file base (suc n) k (blankLines (chosen .line file) (suc n) ls)))
+          → Alike chosen (linesFrom file base n start (l ∷ ls)) (linesFrom file base n again (cond c (spaces l) l ∷ blankLines (chosen .line file) (suc n) ls))
       go true e a = alike-blank (blank-at n start again l l e) (a (again + length (spaces l) + 1) (omega (arith, length-spaces l)))
       go false e a = alike-same (ap (λ (k : ℕ). record { file = file; number = n; base = base; start = k; bytes = l }) h) (a (again + length l + 1) (omega arith))
 
   -- blanked with its BOM, line 1 is three spaces longer and starts where the BOM did
-  alike-bom : (start : ℕ) (s : List ℕ) → isEmpty s ≡ false → chosen file 1 ≡ true
-      → Alike chosen (linesFrom file base 1 (start + 3) (split s)) (linesFrom file base 1 (start + 0) (onto 32 (onto 32 (onto 32 (blankLines (chosen file) 1 (split s))))))
+  alike-bom : (start : ℕ) (s : List ℕ) → isEmpty s ≡ false → chosen .line file 1 ≡ true
+      → Alike chosen (linesFrom file base 1 (start + 3) (split s)) (linesFrom file base 1 (start + 0) (onto 32 (onto 32 (onto 32 (blankLines (chosen .line file) 1 (split s))))))
   alike-bom start s h c = go (split s) (split-some s h)
     where
-      go : (ls : List (List ℕ)) → (ls ≡ [] → ⊥) → Alike chosen (linesFrom file base 1 (start + 3) ls) (linesFrom file base 1 (start + 0) (onto 32 (onto 32 (onto 32 (blankLines (chosen file) 1 ls)))))
+      go : (ls : List (List ℕ)) → (ls ≡ [] → ⊥) → Alike chosen (linesFrom file base 1 (start + 3) ls) (linesFrom file base 1 (start + 0) (onto 32 (onto 32 (onto 32 (blankLines (chosen .line file) 1 ls)))))
       go [] k = absurd (k refl)
       go (l ∷ ls) k =
           rw c (alike-blank (blank-at 1 (start + 3) (start + 0) l (239 ∷ 187 ∷ 191 ∷ l) c) (alike-lines 2 (start + 3 + length l + 1) (start + 0 + length (32 ∷ 32 ∷ 32 ∷ spaces l) + 1) (omega (arith, length-spaces l)) ls))
 
 -- a file that begins with a BOM
-bom-bytes : (s : List ℕ) → hasBom s ≡ true → (t : List ℕ) × (s ≡ 239 ∷ 187 ∷ 191 ∷ t)
+pub bom-bytes : (s : List ℕ) → hasBom s ≡ true → (t : List ℕ) × (s ≡ 239 ∷ 187 ∷ 191 ∷ t)
 bom-bytes [] h = absurd (false≢true h)
 bom-bytes (a ∷ []) h = absurd (false≢true h)
 bom-bytes (a ∷ b ∷ []) h = absurd (false≢true h)
@@ -113,38 +103,56 @@ bom-bytes (a ∷ b ∷ c ∷ s) h = go (eqb a 239) (eqb b 187) (eqb c 191) refl 
 
 -- a file's blanked bytes, lent in its place
 unfoldable pub blankOne : Choice → File → File
-blankOne chosen f = record { number = f .number; base = f .base; start = f .start; bytes = blankedFile (chosen (f .number)) (f .bytes) }
+blankOne chosen f = record { number = f .number; base = f .base; start = f .start; bytes = blankedFile (chosen .line (f .number)) (chosen .bom (f .number)) (f .bytes) }
 
 module _ (chosen : Choice) (file base start : ℕ) where
   -- the lines of these bytes
   abbrev linesAt : List ℕ → List Line
   linesAt s = linesFrom file base 1 (start + bomLength s) (split (drop (bomLength s) s))
 
-  -- these bytes have a line, and the lines of the overwritten bytes are alike
-  abbrev Alikes : List ℕ → Type 0
-  Alikes s = isEmpty (drop (bomLength s) s) ≡ false → Alike chosen (linesAt s) (linesAt (overwritten (chosen file) 1 s))
+  -- the lines of other bytes are alike
+  abbrev To : List ℕ → List ℕ → Type 0
+  To s r = Alike chosen (linesAt s) (linesAt r)
 
-  with-bom : (t : List ℕ) → Alikes (239 ∷ 187 ∷ 191 ∷ t)
+  -- with its BOM, where it has one and a line
+  with-bom : (t : List ℕ) → isEmpty t ≡ false → To (239 ∷ 187 ∷ 191 ∷ t) (overwritten (chosen .line file) 1 (239 ∷ 187 ∷ 191 ∷ t))
   unfolding bomLength overwritten split
-  with-bom t h = go (chosen file 1) refl
+  with-bom t h = go (chosen .line file 1) refl
     where
-      go : (c : Bool) → chosen file 1 ≡ c → Alike chosen (linesAt (239 ∷ 187 ∷ 191 ∷ t)) (linesAt (overwritten (chosen file) 1 (239 ∷ 187 ∷ 191 ∷ t)))
-      go true e = rw (e, split-overwritten (chosen file) 1 t) (alike-bom chosen file base start t h e)
-      go false e = rw (e, split-overwritten (chosen file) 1 t) (alike-lines chosen file base 1 (start + 3) (start + 3) refl (split t))
+      go : (c : Bool) → chosen .line file 1 ≡ c → To (239 ∷ 187 ∷ 191 ∷ t) (overwritten (chosen .line file) 1 (239 ∷ 187 ∷ 191 ∷ t))
+      go true e = rw (e, split-overwritten (chosen .line file) 1 t) (alike-bom chosen file base start t h e)
+      go false e = rw (e, split-overwritten (chosen .line file) 1 t) (alike-lines chosen file base 1 (start + 3) (start + 3) refl (split t))
 
-  without-bom : (s : List ℕ) → hasBom s ≡ false → Alikes s
+  -- behind its BOM
+  behind-bom : (t : List ℕ) → To (239 ∷ 187 ∷ 191 ∷ t) (239 ∷ 187 ∷ 191 ∷ overwritten (chosen .line file) 1 t)
   unfolding bomLength
-  without-bom s e h = rw (e, bom-overwritten (chosen file) 1 s e, split-overwritten (chosen file) 1 s) (alike-lines chosen file base 1 (start + 0) (start + 0) refl (split s))
+  behind-bom t = rw (split-overwritten (chosen .line file) 1 t) (alike-lines chosen file base 1 (start + 3) (start + 3) refl (split t))
 
-  alike-bytes : (s : List ℕ) → Alike chosen (linesAt s) (linesAt (blankedFile (chosen file) s))
-  alike-bytes s =
-      ⊎-elim (λ e. subst (λ (r : List ℕ). Alike chosen (linesAt s) (linesAt r)) (sym e) (alike-refl chosen (linesAt s)))
-      (λ w. subst (λ (r : List ℕ). Alike chosen (linesAt s) (linesAt r)) (sym (w .1)) (go (hasBom s) refl (w .0)))
-      (blanked-or-not (chosen file) s)
+  without-bom : (s : List ℕ) → hasBom s ≡ false → To s (overwritten (chosen .line file) 1 s)
+  unfolding bomLength
+  without-bom s e = rw (e, bom-overwritten (chosen .line file) 1 s e, split-overwritten (chosen .line file) 1 s) (alike-lines chosen file base 1 (start + 0) (start + 0) refl (split s))
+
+  alike-with : (s : List ℕ) → isEmpty (drop (bomLength s) s) ≡ false → To s (overwritten (chosen .line file) 1 s)
+  unfolding bomLength
+  alike-with s = go (hasBom s) refl
     where
-      go : (b : Bool) → hasBom s ≡ b → Alikes s
-      go false e = without-bom s e
-      go true e = let w = bom-bytes s e in subst Alikes (sym (w .1)) (with-bom (w .0))
+      go : (b : Bool) → hasBom s ≡ b → isEmpty (drop (bomLength s) s) ≡ false → To s (overwritten (chosen .line file) 1 s)
+      go false e h = without-bom s e
+      go true e h = let w = bom-bytes s e in subst (λ (r : List ℕ). isEmpty (drop (bomLength r) r) ≡ false → To r (overwritten (chosen .line file) 1 r)) (sym (w .1)) (with-bom (w .0)) h
+
+  alike-behind : (s : List ℕ) → To s (take (bomLength s) s ++ overwritten (chosen .line file) 1 (drop (bomLength s) s))
+  unfolding bomLength
+  alike-behind s = go (hasBom s) refl
+    where
+      go : (b : Bool) → hasBom s ≡ b → To s (take (bomLength s) s ++ overwritten (chosen .line file) 1 (drop (bomLength s) s))
+      go false e = let z : overwritten (chosen .line file) 1 s ≡ take (bomLength s) s ++ overwritten (chosen .line file) 1 (drop (bomLength s) s) = rw e in subst (To s) z (without-bom s e)
+      go true e = let w = bom-bytes s e in subst (λ (r : List ℕ). To r (take (bomLength r) r ++ overwritten (chosen .line file) 1 (drop (bomLength r) r))) (sym (w .1)) (behind-bom (w .0))
+
+  alike-bytes : (s : List ℕ) → To s (blankedFile (chosen .line file) (chosen .bom file) s)
+  alike-bytes s =
+      ⊎-elim (λ w. subst (To s) (sym (w .1)) (alike-with s (w .0)))
+      (λ e. subst (To s) (sym e) (alike-behind s))
+      (with-or-behind (chosen .line file) (chosen .bom file) s)
 
 pub alike-file : (chosen : Choice) (f : File) → Alike chosen (linesOf f) (linesOf (blankOne chosen f))
 unfolding linesOf blankOne

@@ -49,13 +49,13 @@ unfoldable pub SparesVisited : Choice → List ℕ → List ℕ → List ℕ →
 SparesVisited chosen path rules ends bases flags =
     (e : Entry) → List·Memᴰ e (visited (verdict (folds flags) (orderedLines rules ends bases)) (parents path) (pathEntry path flags))
     → (l : Line) → Decides (ignoreWord (folds flags) e) (orderedLines rules ends bases) l
-    → chosen (l .file) (l .number) ≡ true → ⊥
+    → chosen .line (l .file) (l .number) ≡ true → ⊥
 
 -- none of the chosen lines decides the attribute of the attribute question
 unfoldable pub SparesAttribute : Choice → List ℕ → List ℕ → List ℕ → List ℕ → List ℕ → ℕ → Type 0
 SparesAttribute chosen path rules ends bases name flags =
     (l : Line) → Decides (attributeWord (folds flags) (pathEntry path flags) name) (orderedLines rules ends bases) l
-    → chosen (l .file) (l .number) ≡ true → ⊥
+    → chosen .line (l .file) (l .number) ≡ true → ⊥
 
 -- "whichever lines are overwritten with spaces, any number at once: if none of them decides .., that question asked again is accepted and has the
 -- same complete answer, line number included"

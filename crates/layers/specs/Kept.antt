@@ -13,7 +13,7 @@ use Rattle.layers.specs.SpaceLines.{spaces}
 
 -- a chosen line after blanking: its file, number and base as before, its bytes spaces. (Its start moves where a BOM was overwritten with it.)
 pub record Blank (chosen : Choice) (before after : Line) : Type 0 where
-  pub was-chosen : chosen (before .file) (before .number) ≡ true
+  pub was-chosen : chosen .line (before .file) (before .number) ≡ true
   pub same-file : after .file ≡ before .file
   pub same-number : after .number ≡ before .number
   pub same-base : after .base ≡ before .base
@@ -59,7 +59,7 @@ module _ {A : Type 0} (word : Line → Option A) where
       go (some a) none e f = absurd (h (record { earlier = []; later = ls; stands = refl; speaks = (a, e); silent = last-silent word ls f }))
 
   pub kept-answer : {chosen : Choice} {ls ms : List Line} → ((m : Line) (s : List ℕ) → m .bytes ≡ spaces s → word m ≡ none) → Alike chosen ls ms
-      → ((l : Line) → Decides word ls l → chosen (l .file) (l .number) ≡ true → ⊥) → lastSaid word ms ≡ lastSaid word ls
+      → ((l : Line) → Decides word ls l → chosen .line (l .file) (l .number) ≡ true → ⊥) → lastSaid word ms ≡ lastSaid word ls
   kept-answer quiet alike-nil spares = refl
   kept-answer quiet (alike-same {l = l} {m = m} {ls = ls} {ms = ms} e a) spares =
       ap (λ (x : Line). joined (said x (word x)) (lastSaid word ms)) e
