@@ -11,7 +11,7 @@ use Rattle.refusals.specs.Questions.{IgnoreRefuses, AttributeRefuses}
 use Rattle.refusals.proofs.LowestLaws.{lowest-one, lowest-refuses}
 use Rattle.rulefiles.specs.RuleFiles.{orderedLines}
 use Rattle.rulefiles.specs.Last.{Decision}
-use Rattle.wildmatch.specs.Answers.{flagOne, flagTwo}
+use Rattle.refusals.specs.Flags.{flagOne, flagTwo}
 use Rattle.attributelines.specs.declared.State.{State}
 use Rattle.questions.specs.Verdicts.{verdict, attributeState, parents, topDown}
 use Rattle.questions.specs.Answers.{pathEntry, folds, ignoreAnswer, spoken, attributeAnswer, IgnoreAnswered, AttributeAnswered}

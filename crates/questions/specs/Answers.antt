@@ -9,7 +9,7 @@ use Rattle.rulefiles.specs.RuleFiles.{orderedLines}
 use Rattle.rulefiles.specs.Last.{Decision}
 use Rattle.refusals.specs.Refusals.{Lowest, Accepted}
 use Rattle.refusals.specs.Questions.{IgnoreRefuses, AttributeRefuses}
-use Rattle.wildmatch.specs.Answers.{flagOne, flagTwo}
+use Rattle.refusals.specs.Flags.{flagOne, flagTwo}
 use Rattle.entries.specs.Entries.{Entry}
 use Rattle.attributelines.specs.declared.State.{State}
 use Rattle.questions.specs.Complete.{Complete, nothingSaid, refusal, stated}

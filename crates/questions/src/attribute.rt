@@ -7,9 +7,9 @@ use crate::AttributeAnswer;
 use crate::state::Heard;
 use crate::state::path_heard;
 use attributelines::State;
+use refusals::flags::flag_one;
+use refusals::flags::flag_two;
 use refusals::lowest::attribute_refusal;
-use wildmatch::answer::flag_one;
-use wildmatch::answer::flag_two;
 
 // What was heard, as an answer.
 fn spoken(heard: Heard) -> AttributeAnswer

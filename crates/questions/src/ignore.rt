@@ -10,9 +10,9 @@ use crate::IgnoreAnswer;
 use crate::verdict::Said;
 use crate::verdict::entry_said;
 use entries::component_start;
+use refusals::flags::flag_one;
+use refusals::flags::flag_two;
 use refusals::lowest::ignore_refusal;
-use wildmatch::answer::flag_one;
-use wildmatch::answer::flag_two;
 
 // Whether an entry lies under an ignored parent, and what that answers.
 pub enum Above {

@@ -1,5 +1,6 @@
 -- What a reader must believe:
 pub mod Limits
+pub mod Flags
 pub mod Refusals
 pub mod Questions
 -- Inner definitions, which only the contracts of private functions cite:

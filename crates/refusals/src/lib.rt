@@ -4,9 +4,10 @@ ghost use mathlib.Core.Logic.{_↔_};
 ghost use mathlib.Core.Bool.{true};
 ghost use Prim.Native.Nat.{_+_, _≤_};
 ghost use lib.ListN.{length};
-ghost use Rattle.refusals.specs.Refusals.{TooLong, HoldsZero, FlagsHigh};
+ghost use Rattle.refusals.specs.Refusals.{TooLong, HoldsZero};
 ghost use Rattle.refusals.specs.Places.{ZeroIn};
 
+pub mod flags;
 pub mod lists;
 pub mod lowest;
 pub mod name;
@@ -16,8 +17,6 @@ pub mod rules;
 const PATTERN_LIMIT: usize = 2048;
 
 const TEXT_LIMIT: usize = 4096;
-
-const FLAGS_LIMIT: u64 = 3;
 
 const PATH_LIMIT: usize = 4096;
 
@@ -77,11 +76,4 @@ pub fn holds_zero(bytes: &[u8]) -> bool
         return zero_in(bytes, 0, 16) || zero_in(bytes, n - 16, 16);
     }
     zero_in(bytes, 0, n)
-}
-
-// Whether the flags number is above the highest.
-pub fn flags_high(flags: u64) -> bool
-    ensures { λ r. ⌜ (r ≡ true) ↔ FlagsHigh flags ⌝ }
-{
-    FLAGS_LIMIT < flags
 }

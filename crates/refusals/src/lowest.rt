@@ -2,7 +2,7 @@
 ghost use Rattle.refusals.specs.Refusals.{Found};
 ghost use Rattle.refusals.specs.Questions.{IgnoreRefuses, AttributeRefuses};
 ghost use Rattle.refusals.specs.Tests.{LentTold};
-use crate::flags_high;
+use crate::flags::flags_high;
 use crate::holds_zero;
 use crate::lists::lists_bad;
 use crate::name::name_bad;

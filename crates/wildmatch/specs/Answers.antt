@@ -2,9 +2,9 @@
 use Prim.Native.Nat.{ℕ, _+_}
 use mathlib.Core.Path.{_≡_}
 use mathlib.Core.Logic.{_↔_}
-use mathlib.Core.Bool.{Bool, true, false, cond, _||_}
+use mathlib.Core.Bool.{Bool, true}
 use mathlib.Core.List.{List}
-use lib.Dec.{eqb}
+use Rattle.refusals.specs.Flags.{flagOne, flagTwo}
 use Rattle.refusals.specs.Refusals.{Lowest, Accepted, MatcherRefuses}
 use Rattle.wildmatch.specs.Sharing.{Matches}
 use Rattle.wildmatch.specs.Test.{matchesTest}
@@ -12,19 +12,7 @@ use Rattle.wildmatch.specs.declared.Mode.{Mode}
 use Rattle.wildmatch.specs.declared.answer.Answer.{Answer}
 use Rattle.wildmatch.specs.declared.answer.Answer.the-variants.{Unmatched, Matched, Refused}
 
--- "Flags are one number": the sum of those of the two flags, 1 and 2, that are given
-abbrev pub sumOf : Bool → Bool → ℕ
-sumOf one two = cond one 1 0 + cond two 2 0
-
--- the flag 1 is in the sum, without the other or with it
-unfoldable pub flagOne : ℕ → Bool
-flagOne flags = eqb flags (sumOf true false) || eqb flags (sumOf true true)
-
--- the flag 2 is in the sum
-unfoldable pub flagTwo : ℕ → Bool
-flagTwo flags = eqb flags (sumOf false true) || eqb flags (sumOf true true)
-
--- "for the matcher 1 = path mode, 2 = fold case"
+-- "Flags are one number: for the matcher 1 = path mode, 2 = fold case"
 unfoldable pub modeOf : ℕ → Mode
 modeOf flags = record { path = flagOne flags; fold = flagTwo flags }
 

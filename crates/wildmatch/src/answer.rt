@@ -1,10 +1,12 @@
 // The matcher as it is called from outside: refusals first, then the answer.
 ghost use mathlib.Core.Path.{_≡_};
-ghost use Rattle.wildmatch.specs.Answers.{flagOne, flagTwo, modeOf, MatchDecided, Answered, codeOf};
+ghost use Rattle.wildmatch.specs.Answers.{modeOf, MatchDecided, Answered, codeOf};
 use crate::Mode;
 use crate::matcher::Outcome;
 use crate::matcher::match_items;
-use refusals::flags_high;
+use refusals::flags::flag_one;
+use refusals::flags::flag_two;
+use refusals::flags::flags_high;
 use refusals::holds_zero;
 use refusals::too_long;
 
@@ -13,20 +15,6 @@ pub enum Answer {
     Unmatched,
     Matched,
     Refused(u8),
-}
-
-// Whether the flag 1 is in a flags number; 3 has both flags, and a number above it none.
-pub fn flag_one(flags: u64) -> bool
-    ensures { λ r. ⌜ r ≡ flagOne flags ⌝ }
-{
-    flags == 1 || flags == 3
-}
-
-// Whether the flag 2 is in it.
-pub fn flag_two(flags: u64) -> bool
-    ensures { λ r. ⌜ r ≡ flagTwo flags ⌝ }
-{
-    flags == 2 || flags == 3
 }
 
 // The modes that a flags number asks for.

@@ -77,14 +77,20 @@ impl Asks for Prober {
 fn ask(places: Places, flags: u64) -> Answer {
     // Two places more than asked for, on each side, show a stray write.
     let mut out = [UNTOUCHED; 8];
-    let count = if places.name.is_some() { 4 } else { 3 };
+    let attribute = places.name.is_some();
+    let count = if attribute { 4 } else { 3 };
     let code = call(places, flags, &mut out[2..2 + count]);
-    let said = (1..16).contains(&code);
-    let stray = out.iter().enumerate().any(|(i, &x)| x != UNTOUCHED && !(said && (2..2 + count).contains(&i)));
-    let numbers = match (said, stray) {
-        (_, true) => out.to_vec(), // differs from every answer
-        (true, false) => out[2..2 + count].to_vec(),
-        (false, false) => Vec::new(),
+    let told = match (attribute, code) {
+        (false, 1 | 2) => 3,
+        (true, 3) => 4,
+        (true, 1 | 2 | 4) => 2,
+        _ => 0,
+    };
+    let stray = out.iter().enumerate().any(|(i, &x)| x != UNTOUCHED && !(2..2 + told).contains(&i));
+    let numbers = match (told, stray) {
+        (_, true) => out.to_vec(),                // differs from every answer
+        (2, false) => vec![0, 0, out[2], out[3]], // no value: the form writes two zeros in its place
+        (_, false) => out[2..2 + told].to_vec(),
     };
     Answer { code, numbers }
 }
