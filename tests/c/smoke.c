@@ -1,35 +1,22 @@
-/* The archive from C: document 01's frames P1 to P12 in the four modes, its
- * run frames for the two questions, the examples of the header, each refusal
+/* The archive from C: document 01's frames P1 to P12 in the four modes, the rows
+ * of the two questions that C can ask, the examples of the header, each refusal
  * that C can reach, on both sides of its limits, and for every argument no
- * bytes and the most. Prints one line; status 1 if any answer differs.
+ * bytes and the most. Prints one line; status 1 if any answer differs or a row
+ * cannot be read.
+ *
+ * usage: smoke MATCHES IGNORES ATTRIBUTES
+ *
+ * These are document-01.tsv, ignore.tsv and attributes.tsv of crates/tables/data;
+ * their first lines say how they are written.
  *
  * Refusal 2 cannot be reached from C: it is about how several rule files are
  * lent, and each call lends one. target/twin/release/questions has it. */
 #include "fidshore.h"
+#include "sheet.h"
 #include <stdio.h>
 #include <string.h>
 
-/* Answers in the order of the columns: path, path and fold, plain, plain and fold. */
-struct frame { const char *text, *pattern, *answers; };
-
-static const struct frame frames[] = {
-    { "foo\\", "foo\\", "0000" },
-    { "a]b", "a[]]b", "1111" },
-    { "foo/baz/bar", "foo**bar", "0011" },
-    { "foo/baz/bar", "foo/**/**/bar", "1100" },
-    { "foo/bar", "foo/**/bar", "1100" },
-    { "foo", "**/foo", "1100" },
-    { "deep/foo/bar/baz/", "**/bar/*", "0011" },
-    { "deep/foo/bar/baz/", "**/bar/**", "1111" },
-    { "foo/bar", "foo[/]bar", "0011" },
-    { "A", "[a-z]", "0101" },
-    { "", "", "1111" },
-    { "ten", "**[!ten]", "0000" },
-};
-static const uint64_t columns[] = { FIDSHORE_PATH_MODE, FIDSHORE_PATH_MODE | FIDSHORE_FOLD, 0, FIDSHORE_FOLD };
-
-/* Bytes with their length; a C string's, or none at all. */
-struct bytes { const char *at; size_t len; };
+/* A C string's bytes, or none at all. */
 static struct bytes str(const char *s) { return (struct bytes){ s, strlen(s) }; }
 static const struct bytes none = { NULL, 0 };
 #define BYTES(s) (struct bytes){ s, sizeof(s) - 1 }
@@ -38,13 +25,16 @@ static const struct bytes none = { NULL, 0 };
 
 static int asked, wrong;
 
+/* How many of the bytes a message shows. */
+static int shown(struct bytes b) { return b.len < 20 ? (int)b.len : 20; }
+
 static void judge(const char *call, struct bytes first, struct bytes second, uint64_t flags, uint32_t got, uint32_t want)
 {
     asked++;
     if (got == want) return;
     wrong++;
-    printf("%s `%.20s` `%.20s` flags %llu: %u, not %u\n", call, first.at ? first.at : "", second.at ? second.at : "",
-           (unsigned long long)flags, got, want);
+    printf("%s `%.*s` `%.*s` flags %llu: %u, not %u\n", call, shown(first), first.at ? first.at : "", shown(second),
+           second.at ? second.at : "", (unsigned long long)flags, got, want);
 }
 
 static void match(struct bytes pattern, struct bytes text, uint64_t flags, uint32_t want)
@@ -78,11 +68,78 @@ static struct bytes fill(size_t len)
     return (struct bytes){ filled, len };
 }
 
+/* Where the bytes of a row are put. */
+static char rooms[2][SHEET_LIMIT];
+
+/* The answers of the four columns are code numbers, a digit each. */
+static int match_row(char *row)
+{
+    static const uint64_t columns[] = { FIDSHORE_PATH_MODE, FIDSHORE_PATH_MODE | FIDSHORE_FOLD, 0, FIDSHORE_FOLD };
+    struct bytes pattern, text;
+    char *fields[4];
+    if (!sheet_cut(row, fields, 4)) return 0;
+    if (!sheet_decode(fields[1], rooms[0], &pattern) || !sheet_decode(fields[2], rooms[1], &text)) return 0;
+    if (strlen(fields[3]) != 4 || strspn(fields[3], "0123456789") != 4) return 0;
+    for (size_t k = 0; k < 4; k++) match(pattern, text, columns[k], (uint32_t)(fields[3][k] - '0'));
+    return 1;
+}
+
+/* The code number of a complete answer: what stands behind its first word is not
+ * in the code, but for a refusal's number. */
+static int code_of(const char *answer, int is_attribute, uint32_t *code)
+{
+    static const char *const verdicts[] = {
+        [FIDSHORE_NOTHING_SAID] = "nothing", [FIDSHORE_IGNORED] = "ignored", [FIDSHORE_RE_INCLUDED] = "re-included", NULL
+    };
+    static const char *const states[] = {
+        [FIDSHORE_NOTHING_SAID] = "nothing", [FIDSHORE_SET] = "set", [FIDSHORE_UNSET] = "unset",
+        [FIDSHORE_VALUE] = "value", [FIDSHORE_UNSPECIFIED] = "unspecified", NULL
+    };
+    const char *const *words = is_attribute ? states : verdicts;
+    size_t len = strcspn(answer, " ");
+    for (*code = 0; words[*code]; ++*code)
+        if (strlen(words[*code]) == len && !strncmp(answer, words[*code], len)) return 1;
+    unsigned number = 0;
+    int is_refusal = sscanf(answer, "refused %u", &number) == 1;
+    *code = FIDSHORE_REFUSED + number;
+    return is_refusal;
+}
+
+/* The files, the path, the flags with the attribute's name behind them, and the
+ * answer. C lends one file of base 0; rows that lend others are for `questions`. */
+static int question_row(char *row)
+{
+    struct bytes rules, path;
+    char *fields[5];
+    uint32_t want;
+    if (!sheet_cut(row, fields, 5)) return 0;
+    const char *files = fields[1], *flags = fields[3], *name = flags[0] && flags[1] ? flags + 2 : NULL;
+    if (strspn(flags, "0123456789") != 1 || (name && flags[1] != ' ') || !code_of(fields[4], !!name, &want)) return 0;
+    if (*files != '=' || strchr(files, ' ')) return 1;
+    const char *file = sheet_file(files);
+    if (!file || !sheet_decode(file, rooms[0], &rules) || !sheet_decode(fields[2], rooms[1], &path)) return 0;
+    if (name) attribute(rules, path, str(name), (uint64_t)(*flags - '0'), want);
+    else ignore(rules, path, (uint64_t)(*flags - '0'), want);
+    return 1;
+}
+
+/* Asks the rows of a data file. With none to ask, no answer would be wrong. */
+static void table(const char *name, int (*ask)(char *row))
+{
+    int before = asked;
+    size_t rows = sheet_read(name);
+    for (size_t i = 0; i < rows; i++) {
+        if (ask(sheet_row(i))) continue;
+        wrong++;
+        printf("%s: malformed: %s\n", name, sheet_row(i));
+    }
+    if (asked > before) return;
+    wrong++;
+    printf("%s: missing, too long, or without a row to ask\n", name);
+}
+
 static void matcher(void)
 {
-    for (size_t i = 0; i < sizeof frames / sizeof *frames; i++)
-        for (size_t k = 0; k < 4; k++)
-            match(str(frames[i].pattern), str(frames[i].text), columns[k], (uint32_t)(frames[i].answers[k] - '0'));
     match(none, none, FIDSHORE_PATH_MODE, FIDSHORE_MATCH);
     match(str(""), none, 0, FIDSHORE_MATCH);
     match(none, str(""), 0, FIDSHORE_MATCH);
@@ -142,23 +199,6 @@ static void header_examples(void)
         uint32_t code = fidshore_attribute(rules, sizeof rules - 1, path, 6, name, 4, 0);
         judge("attribute", str((const char *)rules), str((const char *)path), 0, code, FIDSHORE_UNSET);
     }
-}
-
-/* Document 01, "Frames that must come out right", and the other states. */
-static void run_frames(void)
-{
-    ignore(str("cal/\n!cal/h07\n"), str("cal/h07"), 0, FIDSHORE_IGNORED);
-    ignore(str("*.h\n!a.h\n"), str("a.h"), 0, FIDSHORE_RE_INCLUDED);
-    ignore(str("git/\n"), str("git-foo"), FIDSHORE_DIRECTORY, FIDSHORE_NOTHING_SAID);
-    ignore(str("git/\n"), str("git"), FIDSHORE_DIRECTORY, FIDSHORE_IGNORED);
-    ignore(str("git/\n"), str("git"), 0, FIDSHORE_NOTHING_SAID);
-    ignore(str("GIT/\n"), str("git"), FIDSHORE_DIRECTORY | FIDSHORE_FOLD, FIDSHORE_IGNORED);
-    attribute(str("* fill -fill\n"), str("sky.nc"), str("fill"), 0, FIDSHORE_UNSET);
-    attribute(str("* fill\n"), str("a/sky.nc"), str("fill"), 0, FIDSHORE_SET);
-    attribute(str("* fill=mean\n"), str("sky.nc"), str("fill"), 0, FIDSHORE_VALUE);
-    attribute(str("* fill\n*.nc !fill\n"), str("sky.nc"), str("fill"), 0, FIDSHORE_UNSPECIFIED);
-    attribute(str("*.NC fill\n"), str("sky.nc"), str("fill"), 0, FIDSHORE_NOTHING_SAID);
-    attribute(str("*.NC fill\n"), str("sky.nc"), str("fill"), FIDSHORE_FOLD, FIDSHORE_SET);
 }
 
 /* Refusal 1 of both questions. */
@@ -290,12 +330,18 @@ static void largest(void)
     ignore(r, p, 3, FIDSHORE_RE_INCLUDED);
 }
 
-int main(void)
+int main(int count, char **words)
 {
+    if (count != 4) {
+        fprintf(stderr, "usage: smoke MATCHES IGNORES ATTRIBUTES\n");
+        return 2;
+    }
+    table(words[1], match_row);
+    table(words[2], question_row);
+    table(words[3], question_row);
     matcher();
     matcher_refusals();
     header_examples();
-    run_frames();
     paths();
     rule_bytes();
     lines();

@@ -14,6 +14,7 @@ pub mod families;
 pub mod grammar;
 pub mod members;
 pub mod question_families;
+pub mod tables;
 pub mod usual;
 pub mod words;
 

@@ -1,7 +1,6 @@
 //! The questions that are asked: scenes of the papers, random ones, the
 //! boundaries of the refusals, every small rule file, hostile bytes, and the
 //! laws of demand 3.
-pub mod attribute_scenes;
 pub mod attributes;
 pub mod blanking;
 pub mod bounds;
@@ -30,7 +29,6 @@ pub fn shared<A: Asks>(
     own_bounds: fn(&mut Check<A>),
 ) -> Vec<Count> {
     scenes::run(check);
-    attribute_scenes::run(check);
     let mut counts = vec![check.part("scenes of 01 and 001")];
     bounds::run(check);
     own_bounds(check);
