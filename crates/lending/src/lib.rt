@@ -80,7 +80,8 @@ fn lend_file(
 
 // Lends the files that stand above the path. Their bytes lie end to end in `files`, by their ends, and so do the directories
 // that they stand in, each with its last slash, in `directories`. What is lent is put at the front of `rules`, `ends` and `bases`, as the
-// questions take it; `numbers` says which of the given files each is.
+// questions take it; `numbers` says which of the given files each is. It serves the command-line program and is no part of the base: what stands
+// behind the lists, and in all four buffers where the answer is `Full`, is free.
 pub fn lend(
     path: &[u8],
     directories: &[u8],
