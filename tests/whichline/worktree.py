@@ -1,7 +1,8 @@
 """What git says in a work tree, as the program should say it of the same rule files.
 
 The patterns of archive.py mean the same to git and to document 01; tests/git/questions names what is left out. Paths below a
-file are left out too: git does not ask about them.
+file are left out too: git does not ask about them. Git is asked about a directory without its last `/`, with which it gives
+another answer (README.md's known differences).
 """
 import os
 import subprocess
