@@ -58,6 +58,23 @@ pub const QUESTION_FAMILIES: &[QuestionFamily] = &[
     attribute("`*[xxx...] fill` on one component", ["*[", "x", "] fill"], "a"),
 ];
 
+/// Those that are slow on paths of few components already, and the paths'
+/// lengths to try: 0 is components of one letter. A run before a class tries
+/// it at each letter, so that longer components are slower.
+pub const DEEP_FAMILIES: &[(QuestionFamily, &[usize])] = &[
+    (ignore("`**/a/a/b/a`", ["**/a/a/b/a", "", ""], "a/"), &[0]),
+    (ignore("`!**/a`", ["!**/a", "", ""], "a/"), &[0]),
+    (ignore("`**/[[:[:...x]`", ["**/[", "[:", "x]"], "a/"), &[0]),
+    (ignore("`**/*?[b]`", ["**/*?[b]", "", ""], "a/"), &[0, 256, 1024]),
+    (ignore("`**/*[[:[:...x]`", ["**/*[", "[:", "x]"], "a/"), &[0, 256, 1024]),
+];
+
+/// So many components of the letter `a`, all of one length, in at most so many bytes.
+pub fn deep_path(components: usize, bytes: usize) -> Vec<u8> {
+    let letters = ((bytes + 1) / components).max(2) - 1;
+    vec!["a".repeat(letters); components].join("/").into_bytes()
+}
+
 impl QuestionFamily {
     /// Does a line have room to grow in?
     pub fn grows(&self) -> bool {

@@ -4,14 +4,15 @@
 //!
 //! Exit status 1 if any call of the matcher is over the limit. Quick leaves
 //! out plain mode and the texts that may match. Then the questions, by the C
-//! calls: the usual ones, and how the families grow.
+//! calls: the usual ones, how the families grow and, in full, what they take
+//! by the path's depth.
 use std::env::args;
 use std::process::exit;
 use std::time::Duration;
 use twin::asking::calls::code;
 use twin::families::{mode, Family, FAMILIES};
 use twin::growth::{time, Growth};
-use twin::question_families::{QuestionFamily, QUESTION_FAMILIES};
+use twin::question_families::{deep_path, QuestionFamily, DEEP_FAMILIES, QUESTION_FAMILIES};
 use twin::timing::{about, least, microseconds, watch};
 use twin::usual;
 
@@ -39,6 +40,9 @@ fn main() {
     backtracking_row();
     usual_questions();
     growing_questions(if quick { 0.5 } else { 5.0 });
+    if !quick {
+        deep_questions();
+    }
     println!("\nfamilies: worst {:.1} ms ({}), limit {limit} ms", worst.0 / 1000.0, worst.1);
     exit((worst.0 > limit * 1000.0) as i32);
 }
@@ -108,5 +112,23 @@ fn at_the_limits(family: &QuestionFamily, growth: &Growth, seconds: f64) -> Stri
     match reckoned <= seconds {
         true => format!("{:.4}", time(family, family.limits()) / 1e6),
         false => format!("about {reckoned:.0}"),
+    }
+}
+
+/// What bounding the path's depth and length saves from, with as many rules as are taken.
+fn deep_questions() {
+    println!("\nQuestions by the path's components: seconds with 65,536 rule bytes.\n");
+    println!("| family | path | 16 | 32 | 64 |\n|---|---|---|---|---|");
+    for (family, lengths) in DEEP_FAMILIES {
+        let rules = family.rules(family.limits());
+        for bytes in *lengths {
+            let cells = [16, 32, 64].map(|components| {
+                about(format!("{}, {components} components in {bytes} bytes", family.name));
+                let path = deep_path(components, *bytes);
+                format!("{:.3}", least(&|| code(&rules, &path, None, 0)) / 1e6)
+            });
+            let path = if *bytes == 0 { "components of one letter".to_string() } else { format!("{bytes} bytes") };
+            println!("| {} | {path} | {} |", family.name, cells.join(" | "));
+        }
     }
 }
