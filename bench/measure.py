@@ -8,7 +8,8 @@ built, git and git-fixed. DATA gets a line a cell: table, column, worker,
 nanoseconds a question (the median, or `over` where there was no answer in
 time), the least and the most of the rounds, and how many answers differ from
 fidshore's. The answers are compared first: git's must all be the same.
-fnmatch has no `**`, so its own differences are only counted.
+fnmatch has no `**`, so its own differences are only counted. listing.py adds
+one more table, whose times are those of a whole command.
 """
 import pathlib
 import signal
@@ -132,4 +133,5 @@ def main():
     data.write_text("\n".join(out) + "\n")
 
 
-main()
+if __name__ == "__main__":
+    main()

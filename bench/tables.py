@@ -13,7 +13,8 @@ import re
 import sys
 
 OURS, PATIENCE = "fidshore", "3 s"
-WORKERS = ("git", "git-fixed", "fnmatch", OURS)
+PEERS = ("git", "git-fixed", "fnmatch", "git-program")
+WORKERS = PEERS + (OURS, "whichline")
 QUESTIONS = ("ignore", "open", "attribute", "components")
 LINES = {"10": "10", "100": "100", "1000": "1,000", "3000": "3,000"}
 # name: what is measured, and the columns that are printed
@@ -28,6 +29,9 @@ TABLES = {
     "open": ("The same, each line ending in a wildcard", {k: v for k, v in LINES.items() if k != "3000"}),
     "attribute": ("The attribute question, the same way", LINES),
     "components": ("The ignore question, 100 lines, by components of the path", {k: k for k in ("1", "4", "16", "64")}),
+    "listing": ("A listing of 200,000 paths, rules read once by git, the whole command, by lines of rules",
+                {f"{question}-{k}": words for question in ("ignore", "attribute") for k, words in
+                 {"10": f"{question}, 10", "100": "100", "1000": "1,000", "names": "1,000 names"}.items()}),
 }
 
 
@@ -47,7 +51,9 @@ def read(path):
 def labels(about, table):
     git = " ".join(["git"] + about.get("git", []))
     fnmatch = "a loop of fnmatch" if table in QUESTIONS else "fnmatch"
-    return {"git": git, "git-fixed": f"{git}, later fix", "fnmatch": f"{fnmatch}, {about['fnmatch'][0]}", OURS: OURS}
+    program = " ".join(["git"] + about.get("git-program", [])) + ", `check-ignore` and `check-attr`"
+    return {"git": git, "git-fixed": f"{git}, later fix", "fnmatch": f"{fnmatch}, {about['fnmatch'][0]}", OURS: OURS,
+            "git-program": program, "whichline": "`whichline`"}
 
 
 def shown(ns):
@@ -66,7 +72,7 @@ def times(ratio):
 
 def fastest(cells, table, column):
     """The least time of a peer with the same answers; a loop of fnmatch is not the whole question."""
-    peers = ("git", "git-fixed") if table in QUESTIONS else WORKERS[:-1]
+    peers = [peer for peer in PEERS if peer != "fnmatch" or table not in QUESTIONS]
     found = [cells.get((table, column, peer), (None, 0)) for peer in peers]
     return min((time for time, different in found if time and not different), default=None)
 
@@ -92,6 +98,8 @@ def cell(cells, table, column, worker):
 def table(about, cells, name):
     columns = TABLES[name][1]
     workers = [w for w in WORKERS if any(key[0] == name and key[2] == w for key in cells)]
+    if not workers:
+        return "Left out: " + "; ".join(about.get(f"no {name}", ["not in the data"])) + "."
     out = ["| | " + " | ".join(columns.values()) + " |", "|---" * (len(columns) + 1) + "|"]
     for worker in workers:
         row = [cell(cells, name, column, worker) for column in columns]

@@ -29,6 +29,8 @@ MORE_ATTRIBUTES = ["*.{ext}{i} fill", "/{stem}{i}/** -fill", "{stem}_{i}_*.{ext}
                    "{stem}{i}/*.{ext} -text", "{stem}[0-9]_{i}.{ext} fill"]
 # Lines that end in a wildcard: the last byte of an entry rules none of them out.
 OPEN = ["{stem}_{i}_*", "{stem}{i}/*", "**/{stem}{i}*", "!{stem}{i}?", "/{stem}{i}*"]
+# Names of single files, with the ending that most files have: git compares them as strings.
+NAMES = ["{stem}_{i}.nc"]
 STEMS = ["sky", "irr", "dark", "flat", "mask", "ghi", "dni", "cam"]
 EXTENSIONS = ["nc", "nc", "fits", "csv", "png", "jpg", "json", "bak"]
 
@@ -76,6 +78,38 @@ def deep_paths(components, count=100):
     above = [[f"{draw.choice(['year', 'month', 'day', 'set'])}{draw.randrange(100):02}" for _ in range(components - 1)]
              for _ in range(count)]
     return [("/".join(names + [f"sky_{draw.randrange(2400):04}.nc"]).encode(), 0) for names in above]
+
+
+def inside(name, files):
+    """A directory and its files."""
+    return [(name, 1)] + [(f"{name}/{file}", 0) for file in files]
+
+
+def whole_day(name):
+    out = [(name, 1)]
+    for hour in range(24):
+        out += inside(f"{name}/h{hour:02}", [f"irr_{hour:02}00.nc"] + [f"sky_{hour:02}{minute:02}.nc" for minute in range(60)])
+    return out + inside(f"{name}/quicklook", ["day.png"])
+
+
+def listing(count=200_000):
+    """Entries as a walk over the archive prints them: a directory, then what is in it. So neighbours share their directories."""
+    out = []
+    for number in range(40):
+        site = f"site{number:02}"
+        out += [(site, 1)] + inside(f"{site}/cal", [f"flat_{n}.fits" for n in range(99)]) + [(f"{site}/2026", 1), (f"{site}/2026/03", 1)]
+        for day in range(14, 18):
+            out += whole_day(f"{site}/2026/03/{day}")
+    assert len(out) >= count
+    return out[:count]
+
+
+def listing_rules():
+    """The rule files that the listing is asked over, by question and column."""
+    names = lines(["irr_0500.nc"], NAMES, 1000, SEED)
+    ignore = {str(n): lines(IGNORE, MORE_IGNORE, n, SEED) for n in (10, 100, 1000)}
+    attribute = {str(n): lines(ATTRIBUTES, MORE_ATTRIBUTES, n, SEED) for n in (10, 100, 1000)}
+    return {"ignore": {**ignore, "names": names}, "attribute": {**attribute, "names": names.replace(b"\n", b" fill\n")}}
 
 
 def asked(rules, about):
