@@ -3,7 +3,7 @@
 #   make demo                 the loader over the sample archive, compared with examples/expected.txt
 #   make whichline            the command-line program; bin/whichline runs it
 #   make test                 the gate
-#   make bench                times beside git and fnmatch: tables, and a picture in target/bench
+#   make bench                times beside git and fnmatch: tables, and a picture in target/bench; whichline beside git over a listing
 #   make install PREFIX=...   the archive, the header, a pkg-config file and whichline
 #   make clean                removes what `make demo` made
 
@@ -36,7 +36,7 @@ whichline: $(program)
 test:
 	.ci/run
 
-bench: $(archive)
+bench: $(archive) $(program)
 	ARCHIVE=$(archive) bench/run
 
 install: $(archive) $(program)
