@@ -1,6 +1,7 @@
 // A row's fields, and the bytes that they write.
 ghost use Prim.Native.Nat.{_+_, _≤_, _<_};
 ghost use lib.ListN.{length};
+ghost use Rattle.tables.specs.Results.{CountOrFailed};
 
 // Where the first byte `b` at `from` or after it stands; the end where there is none.
 pub fn find(s: &[u8], from: usize, b: u8) -> usize
@@ -86,7 +87,9 @@ fn written(s: &[u8], at: usize, len: usize) -> u16
 
 // Puts the bytes that a field writes into `out`, and answers how many. The largest number stands for a field that does
 // not fit or has a broken escape.
-pub fn decode(field: &[u8], out: &mut [u8]) -> usize {
+pub fn decode(field: &[u8], out: &mut [u8]) -> usize
+    ensures { λ r. ⌜ CountOrFailed r (now (out .exit)) ⌝ }
+{
     let mut i = 0;
     let mut n = 0;
     while i < field.len() {

@@ -1,7 +1,10 @@
 // The rule files that a row lends. A sheet of rows says each once, on a line `=NAME`, a tab and its bytes; a row lends it as
 // `DIRECTORY=NAME`.
-ghost use Prim.Native.Nat.{_≤_};
+ghost use Prim.Native.Nat.{_≤_, _<_};
 ghost use lib.ListN.{length};
+ghost use mathlib.Core.Path.{_≡_};
+ghost use mathlib.Core.Logic.{_⊎_};
+ghost use Rattle.tables.specs.Results.{failed, CountOrFailed, lastEnd};
 use crate::fields;
 
 // Whether a line says the bytes of the file with this name.
@@ -74,7 +77,9 @@ fn lend_file(
     rules: &mut [u8],
     ends: &mut [usize],
     bases: &mut [usize],
-) -> usize {
+) -> usize
+    ensures { λ r. ⌜ (r ≡ failed) ⊎ ((n < length (now (ends .exit))) × (n < length (now (bases .exit)))) ⌝ }
+{
     if n >= ends.len() {
         return usize::MAX;
     }
@@ -98,7 +103,10 @@ pub fn lend(
     rules: &mut [u8],
     ends: &mut [usize],
     bases: &mut [usize],
-) -> usize {
+) -> usize
+    ensures { λ r. ⌜ CountOrFailed r (now (ends .exit)) ⌝ }
+    ensures { λ r. ⌜ CountOrFailed r (now (bases .exit)) ⌝ }
+{
     let mut n = 0;
     let mut used = 0;
     let mut i = 0;
@@ -115,7 +123,9 @@ pub fn lend(
 }
 
 // How many bytes of rules the first `n` files fill.
-pub fn filled(ends: &[usize], n: usize) -> usize {
+pub fn filled(ends: &[usize], n: usize) -> usize
+    ensures { λ r. ⌜ r ≡ lastEnd (now (ends .entry)) n ⌝ }
+{
     if n == 0 {
         return 0;
     }

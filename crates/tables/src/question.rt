@@ -1,4 +1,5 @@
 // One row that asks a question: the files that it lends, the path, what is asked, and the complete answer.
+ghost use Rattle.tables.specs.Results.{Answers};
 use crate::fields;
 use crate::lend;
 use crate::report;
@@ -57,7 +58,9 @@ fn compare(
     bases: &[usize],
     asked: &[u8],
     expected: &[u8],
-) -> Outcome {
+) -> Outcome
+    ensures { λ r. ⌜ Answers 1 r ⌝ }
+{
     let mut out = io::buffer();
     let n = answer(path, rules, ends, bases, asked, &mut out);
     if n > 4096 {
@@ -83,7 +86,9 @@ fn run_fields(
     path: &[u8],
     asked: &[u8],
     expected: &[u8],
-) -> Outcome {
+) -> Outcome
+    ensures { λ r. ⌜ Answers 1 r ⌝ }
+{
     let mut rules = io::buffer();
     let mut ends = [0usize; 70];
     let mut bases = [0usize; 70];
@@ -112,7 +117,9 @@ fn run_fields(
 }
 
 // Takes what follows a row's files apart at its first two tabs and runs the row.
-fn run_asked(sheet: &[u8], label: &[u8], files: &[u8], rest: &[u8]) -> Outcome {
+fn run_asked(sheet: &[u8], label: &[u8], files: &[u8], rest: &[u8]) -> Outcome
+    ensures { λ r. ⌜ Answers 1 r ⌝ }
+{
     let a = fields::find(rest, 0, b'\t');
     if a == rest.len() {
         return Outcome::Malformed;
@@ -132,7 +139,9 @@ fn run_asked(sheet: &[u8], label: &[u8], files: &[u8], rest: &[u8]) -> Outcome {
 }
 
 // Runs a row of five fields: its label, its files, the path, what is asked, and the answer expected.
-pub fn run_row(sheet: &[u8], row: &[u8]) -> Outcome {
+pub fn run_row(sheet: &[u8], row: &[u8]) -> Outcome
+    ensures { λ r. ⌜ Answers 1 r ⌝ }
+{
     let a = fields::find(row, 0, b'\t');
     if a == row.len() {
         return Outcome::Malformed;

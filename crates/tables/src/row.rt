@@ -1,6 +1,8 @@
 // One row of the matcher: its pattern and text put to it in each mode.
 ghost use mathlib.Core.Path.{_≡_};
 ghost use lib.ListN.{length};
+ghost use Prim.Native.Nat.{_≤_};
+ghost use Rattle.tables.specs.Results.{Answers};
 use crate::fields;
 use crate::report;
 
@@ -47,6 +49,7 @@ fn differs(label: &[u8], pattern: &[u8], text: &[u8], flags: u64, expected: u64)
 // How many of the four answers differ.
 fn count_differing(label: &[u8], pattern: &[u8], text: &[u8], expected: &[u8]) -> u64
     requires { ⌜ length (now expected) ≡ 4 ⌝ }
+    ensures { λ r. ⌜ r ≤ 4 ⌝ }
 {
     let mut n: u64 = 0;
     let mut i = 0;
@@ -69,6 +72,7 @@ fn run_decoded(
     expected: &[u8],
 ) -> Outcome
     requires { ⌜ length (now expected) ≡ 4 ⌝ }
+    ensures { λ r. ⌜ Answers 4 r ⌝ }
 {
     if p > pattern.len() {
         return Outcome::Malformed;
@@ -83,7 +87,9 @@ fn run_decoded(
     }
 }
 
-fn run_fields(label: &[u8], pattern: &[u8], text: &[u8], expected: &[u8]) -> Outcome {
+fn run_fields(label: &[u8], pattern: &[u8], text: &[u8], expected: &[u8]) -> Outcome
+    ensures { λ r. ⌜ Answers 4 r ⌝ }
+{
     if expected.len() != 4 {
         return Outcome::Malformed;
     }
@@ -98,7 +104,9 @@ fn run_fields(label: &[u8], pattern: &[u8], text: &[u8], expected: &[u8]) -> Out
 }
 
 // Takes a row apart at its first three tabs and runs it.
-pub fn run_row(row: &[u8]) -> Outcome {
+pub fn run_row(row: &[u8]) -> Outcome
+    ensures { λ r. ⌜ Answers 4 r ⌝ }
+{
     let a = fields::find(row, 0, b'\t');
     if a == row.len() {
         return Outcome::Malformed;

@@ -1,4 +1,7 @@
 // The rows of a file, and what they came to.
+ghost use Prim.Native.Nat.{_≤_};
+ghost use mathlib.Core.Path.{_≡_};
+ghost use Rattle.tables.specs.Results.{nothing as none, Grown};
 use crate::fields;
 use crate::question;
 use crate::report;
@@ -21,7 +24,10 @@ pub struct Tally {
     pub section_passed: u64,
 }
 
-pub fn nothing() -> Tally {
+// Nothing is counted yet.
+pub fn nothing() -> Tally
+    ensures { λ r. ⌜ r ≡ none ⌝ }
+{
     Tally {
         rows: 0,
         answers: 0,
@@ -33,14 +39,18 @@ pub fn nothing() -> Tally {
 }
 
 // The sum, or the largest number where the sum would not fit. The rows of a few files come nowhere near it.
-fn plus(a: u64, b: u64) -> u64 {
+fn plus(a: u64, b: u64) -> u64
+    ensures { λ r. ⌜ a ≤ r ⌝ }
+{
     if b > u64::MAX - a {
         return u64::MAX;
     }
     a + b
 }
 
-fn with_malformed(t: Tally) -> Tally {
+fn with_malformed(t: Tally) -> Tally
+    ensures { λ r. ⌜ Grown t r ⌝ }
+{
     Tally {
         rows: plus(t.rows, 1),
         answers: t.answers,
@@ -51,7 +61,9 @@ fn with_malformed(t: Tally) -> Tally {
     }
 }
 
-fn with_answers(t: Tally, answers: u64, differ: u64) -> Tally {
+fn with_answers(t: Tally, answers: u64, differ: u64) -> Tally
+    ensures { λ r. ⌜ Grown t r ⌝ }
+{
     let passed = if differ == 0 { 1 } else { 0 };
     Tally {
         rows: plus(t.rows, 1),
@@ -64,7 +76,9 @@ fn with_answers(t: Tally, answers: u64, differ: u64) -> Tally {
 }
 
 // Writes the line of the section that `row` belongs to, if any row was counted, and starts another.
-fn end_section(row: &[u8], t: Tally) -> Tally {
+fn end_section(row: &[u8], t: Tally) -> Tally
+    ensures { λ r. ⌜ Grown t r ⌝ }
+{
     if t.section_rows == 0 {
         return t;
     }
@@ -95,7 +109,9 @@ fn run_row(table: Table, sheet: &[u8], row: &[u8]) -> Outcome {
 }
 
 // Runs a row and counts it.
-fn count_row(table: Table, sheet: &[u8], row: &[u8], t: Tally) -> Tally {
+fn count_row(table: Table, sheet: &[u8], row: &[u8], t: Tally) -> Tally
+    ensures { λ r. ⌜ Grown t r ⌝ }
+{
     let outcome = run_row(table, sheet, row);
     match outcome {
         Outcome::Malformed => {
@@ -107,7 +123,9 @@ fn count_row(table: Table, sheet: &[u8], row: &[u8], t: Tally) -> Tally {
 }
 
 // Counts a row; `last` begins with the row before it, whose section ends where this one's is another.
-fn next_row(table: Table, sheet: &[u8], last: &[u8], row: &[u8], t: Tally) -> Tally {
+fn next_row(table: Table, sheet: &[u8], last: &[u8], row: &[u8], t: Tally) -> Tally
+    ensures { λ r. ⌜ Grown t r ⌝ }
+{
     if same_section(last, row) {
         return count_row(table, sheet, row, t);
     }
@@ -123,7 +141,9 @@ fn is_row(line: &[u8]) -> bool {
 }
 
 // Runs the rows of a file, one a line.
-pub fn run_rows(table: Table, s: &[u8], before: Tally) -> Tally {
+pub fn run_rows(table: Table, s: &[u8], before: Tally) -> Tally
+    ensures { λ r. ⌜ Grown before r ⌝ }
+{
     let mut t = before;
     let mut last = 0;
     let mut i = 0;

@@ -1,4 +1,5 @@
 // Answers as the data files write them.
+ghost use Rattle.tables.specs.Results.{NoFurther};
 use attributelines::State;
 use questions::AttributeAnswer;
 use questions::Decided;
@@ -7,7 +8,9 @@ use questions::Spoken;
 use rulefiles::Place;
 
 // Puts bytes at a place of `out`, as many as fit, and answers the place after them.
-fn append(out: &mut [u8], at: usize, s: &[u8]) -> usize {
+fn append(out: &mut [u8], at: usize, s: &[u8]) -> usize
+    ensures { λ r. ⌜ NoFurther r at (now (out .exit)) ⌝ }
+{
     let mut n = at;
     let mut i = 0;
     while i < s.len() {
@@ -22,25 +25,33 @@ fn append(out: &mut [u8], at: usize, s: &[u8]) -> usize {
 }
 
 // Puts a space and a number.
-fn append_number(out: &mut [u8], at: usize, n: u64) -> usize {
+fn append_number(out: &mut [u8], at: usize, n: u64) -> usize
+    ensures { λ r. ⌜ NoFurther r at (now (out .exit)) ⌝ }
+{
     let mut digits = [0u8; 20];
     let k = io::decimal(n, &mut digits);
     let after = append(out, at, b" ");
     append(out, after, &digits[..k])
 }
 
-fn append_place(out: &mut [u8], at: usize, place: Place) -> usize {
+fn append_place(out: &mut [u8], at: usize, place: Place) -> usize
+    ensures { λ r. ⌜ NoFurther r at (now (out .exit)) ⌝ }
+{
     let after = append_number(out, at, place.file as u64);
     append_number(out, after, place.line as u64)
 }
 
-fn refused(n: u8, out: &mut [u8]) -> usize {
+fn refused(n: u8, out: &mut [u8]) -> usize
+    ensures { λ r. ⌜ NoFurther r 0 (now (out .exit)) ⌝ }
+{
     let at = append(out, 0, b"refused");
     append_number(out, at, n as u64)
 }
 
 // A verdict, the entry's length, the file and the line.
-fn decided(verdict: &[u8], d: Decided, out: &mut [u8]) -> usize {
+fn decided(verdict: &[u8], d: Decided, out: &mut [u8]) -> usize
+    ensures { λ r. ⌜ NoFurther r 0 (now (out .exit)) ⌝ }
+{
     let at = append(out, 0, verdict);
     let after = append_number(out, at, d.length as u64);
     let place = d.place;
@@ -48,7 +59,9 @@ fn decided(verdict: &[u8], d: Decided, out: &mut [u8]) -> usize {
 }
 
 // Puts an answer of the ignore question, and says how many bytes it has.
-pub fn ignore(answer: IgnoreAnswer, out: &mut [u8]) -> usize {
+pub fn ignore(answer: IgnoreAnswer, out: &mut [u8]) -> usize
+    ensures { λ r. ⌜ NoFurther r 0 (now (out .exit)) ⌝ }
+{
     match answer {
         IgnoreAnswer::Nothing => append(out, 0, b"nothing"),
         IgnoreAnswer::Ignored(d) => decided(b"ignored", d, out),
@@ -58,13 +71,17 @@ pub fn ignore(answer: IgnoreAnswer, out: &mut [u8]) -> usize {
 }
 
 // A state that is no value, the file and the line.
-fn stated(state: &[u8], place: Place, out: &mut [u8]) -> usize {
+fn stated(state: &[u8], place: Place, out: &mut [u8]) -> usize
+    ensures { λ r. ⌜ NoFurther r 0 (now (out .exit)) ⌝ }
+{
     let at = append(out, 0, state);
     append_place(out, at, place)
 }
 
 // Puts the bytes that a value has in the rules.
-fn append_value(out: &mut [u8], at: usize, rules: &[u8], start: usize, length: usize) -> usize {
+fn append_value(out: &mut [u8], at: usize, rules: &[u8], start: usize, length: usize) -> usize
+    ensures { λ r. ⌜ NoFurther r at (now (out .exit)) ⌝ }
+{
     if start > rules.len() {
         return append(out, at, b"outside the rules");
     }
@@ -75,14 +92,18 @@ fn append_value(out: &mut [u8], at: usize, rules: &[u8], start: usize, length: u
 }
 
 // A value: the file, the line, where it starts in the rules, and its bytes.
-fn value(place: Place, start: usize, length: usize, rules: &[u8], out: &mut [u8]) -> usize {
+fn value(place: Place, start: usize, length: usize, rules: &[u8], out: &mut [u8]) -> usize
+    ensures { λ r. ⌜ NoFurther r 0 (now (out .exit)) ⌝ }
+{
     let after_place = stated(b"value", place, out);
     let after_start = append_number(out, after_place, start as u64);
     let at = append(out, after_start, b" ");
     append_value(out, at, rules, start, length)
 }
 
-fn spoken(s: Spoken, rules: &[u8], out: &mut [u8]) -> usize {
+fn spoken(s: Spoken, rules: &[u8], out: &mut [u8]) -> usize
+    ensures { λ r. ⌜ NoFurther r 0 (now (out .exit)) ⌝ }
+{
     let state = s.state;
     let place = s.place;
     match state {
@@ -94,7 +115,9 @@ fn spoken(s: Spoken, rules: &[u8], out: &mut [u8]) -> usize {
 }
 
 // Puts an answer of the attribute question, and says how many bytes it has.
-pub fn attribute(answer: AttributeAnswer, rules: &[u8], out: &mut [u8]) -> usize {
+pub fn attribute(answer: AttributeAnswer, rules: &[u8], out: &mut [u8]) -> usize
+    ensures { λ r. ⌜ NoFurther r 0 (now (out .exit)) ⌝ }
+{
     match answer {
         AttributeAnswer::Nothing => append(out, 0, b"nothing"),
         AttributeAnswer::Said(s) => spoken(s, rules, out),

@@ -1,13 +1,15 @@
 -- No more files are lent than bytes of the field are passed, and the three lists keep their lengths.
 use borrow.Author.Needs.{needs}
 use lib.ListN.{length}
-use mathlib.Core.Path.{_≡_}
+use mathlib.Core.Path.{_≡_, refl}
+use mathlib.Core.Logic.{inl, inr, ⊎-elim}
+use native.Mathlib.Omega.{arith}
 use Prim.Native.Nat.{_≤_, _-_, _+_}
 use Rattle.tables.proofs.lend.lend.Statement.{statement}
 use Rattle.tables.proofs.lend.lend.Tie as tie
 
 abbrev Inv-loop : tie.InvT-loop
-Inv-loop sheet files rules₀ ends₀ bases₀ n₀ used₀ i₀ rules ends bases n used i = (n ≤ i) × (i ≤ length files + 1) × (length rules ≡ length rules₀) × (length ends ≡ length ends₀) × (length bases ≡ length bases₀)
+Inv-loop sheet files rules₀ ends₀ bases₀ n₀ used₀ i₀ rules ends bases n used i = (n ≤ i) × (n ≤ length ends) × (n ≤ length bases) × (i ≤ length files + 1) × (length rules ≡ length rules₀) × (length ends ≡ length ends₀) × (length bases ≡ length bases₀)
 
 abbrev μ-loop : tie.MeasureT-loop
 μ-loop sheet files rules₀ ends₀ bases₀ n₀ used₀ i₀ rules ends bases n used i = length files + 1 - i
@@ -40,7 +42,7 @@ same-length-3 : tie.Need-same-length-3 Inv-loop μ-loop
 same-length-3 c = search needs
 
 returns : tie.Need-returns Inv-loop μ-loop
-returns c = search needs
+returns c = (inl refl, inl refl)
 
 add-n : tie.Need-add-n Inv-loop μ-loop
 add-n c = search needs
@@ -52,7 +54,8 @@ loop-less : tie.Need-loop-less Inv-loop μ-loop
 loop-less c = search needs
 
 loop-again : tie.Need-loop-again Inv-loop μ-loop
-loop-again c = search needs
+loop-again c =
+    ⊎-elim (λ w. absurd (c .if1 .left w)) (λ w. omega arith) (c .before .before .before .before .before .before .before .lend-file .ensures)
 
 same-length-4 : tie.Need-same-length-4 Inv-loop μ-loop
 same-length-4 c = search needs
@@ -64,7 +67,7 @@ same-length-6 : tie.Need-same-length-6 Inv-loop μ-loop
 same-length-6 c = search needs
 
 returns-2 : tie.Need-returns-2 Inv-loop μ-loop
-returns-2 c = search needs
+returns-2 c = (inr (omega arith), inr (omega arith))
 
 pub lend-spec : {M : Type 1} → statement M
 lend-spec =

@@ -1,13 +1,15 @@
 -- The last row begins at or before the present line.
 use borrow.Author.Needs.{needs}
+use native.Mathlib.Omega.{arith}
 use mathlib.Core.Logic.{⊎-elim}
 use lib.ListN.{length}
 use Prim.Native.Nat.{_≤_, _-_, _+_}
+use Rattle.tables.specs.Results.{Grown}
 use Rattle.tables.proofs.tally.run_rows.Statement.{statement}
 use Rattle.tables.proofs.tally.run_rows.Tie as tie
 
 abbrev Inv-loop : tie.InvT-loop
-Inv-loop table s t₀ last₀ i₀ t last i = (last ≤ i) × (last ≤ length s) × (i ≤ length s + 1)
+Inv-loop table s t₀ last₀ i₀ t last i = Grown t₀ t × (last ≤ i) × (last ≤ length s) × (i ≤ length s + 1)
 
 abbrev μ-loop : tie.MeasureT-loop
 μ-loop table s t₀ last₀ i₀ t last i = length s + 1 - i
@@ -58,7 +60,7 @@ loop-less : tie.Need-loop-less Inv-loop μ-loop
 loop-less c = search needs
 
 loop-again : tie.Need-loop-again Inv-loop μ-loop
-loop-again c = ⊎-elim (λ w. search needs) (λ w. search needs) (c .if1 .came)
+loop-again c = ⊎-elim (λ w. rw (w .4, w .5) (omega arith)) (λ w. rw (w .1, w .2) (omega arith)) (c .if1 .came)
 
 sub-end-section : tie.Need-sub-end-section Inv-loop μ-loop
 sub-end-section c = search needs

@@ -1,14 +1,14 @@
 -- Both places stay within their bytes, and `out` keeps its length.
 use borrow.Author.Needs.{needs}
 use lib.ListN.{length, length-set}
-use Prim.Native.Nat.{_≤_, _-_}
+use Prim.Native.Nat.{_≤_, _-_, max}
 use mathlib.Core.Path.{_≡_}
 use native.Mathlib.Omega.{arith}
 use Rattle.tables.proofs.written.append.Statement.{statement}
 use Rattle.tables.proofs.written.append.Tie as tie
 
 abbrev Inv-loop : tie.InvT-loop
-Inv-loop out₀ at s n₀ i₀ out n i = (i ≤ length s) × (length out ≡ length out₀)
+Inv-loop out₀ at s n₀ i₀ out n i = (i ≤ length s) × (n ≤ max at (length out₀)) × (length out ≡ length out₀)
 
 abbrev μ-loop : tie.MeasureT-loop
 μ-loop out₀ at s n₀ i₀ out n i = length s - i
@@ -38,7 +38,7 @@ loop-less : tie.Need-loop-less Inv-loop μ-loop
 loop-less c = search needs
 
 loop-again : tie.Need-loop-again Inv-loop μ-loop
-loop-again c = (omega arith, simp length-set (omega arith))
+loop-again c = (omega arith, omega arith, simp length-set (omega arith))
 
 same-length-2 : tie.Need-same-length-2 Inv-loop μ-loop
 same-length-2 c = search needs
