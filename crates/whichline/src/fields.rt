@@ -1,8 +1,14 @@
 // The fields of an answer. A field is written as it is, unless it holds a control byte, as a tab, or begins with `"`: then it is
 // quoted as C and git do, so that an answer is always one line and its fields stay apart.
+ghost use mathlib.Core.Path.{_≡_};
+ghost use lib.ListN.{length};
+ghost use Rattle.whichline.specs.Places.{after, Onward, AfterNumber, control, letterOf, afterQuoted, plain, afterField};
 
 // Puts bytes at a place of `out` and answers the place after them. The caller leaves room: without it nothing is put.
-pub fn append(out: &mut [u8], at: usize, s: &[u8]) -> usize {
+pub fn append(out: &mut [u8], at: usize, s: &[u8]) -> usize
+    ensures { λ r. ⌜ r ≡ after (length (now (out .entry))) at (length (now (s .entry))) ⌝ }
+    ensures { λ r. ⌜ Onward (now (out .entry)) at r ⌝ }
+{
     if at > out.len() {
         return at;
     }
@@ -13,7 +19,10 @@ pub fn append(out: &mut [u8], at: usize, s: &[u8]) -> usize {
     at + s.len()
 }
 
-fn append_byte(out: &mut [u8], at: usize, b: u8) -> usize {
+fn append_byte(out: &mut [u8], at: usize, b: u8) -> usize
+    ensures { λ r. ⌜ r ≡ after (length (now (out .entry))) at 1 ⌝ }
+    ensures { λ r. ⌜ Onward (now (out .entry)) at r ⌝ }
+{
     if at >= out.len() {
         return at;
     }
@@ -21,18 +30,25 @@ fn append_byte(out: &mut [u8], at: usize, b: u8) -> usize {
     at + 1
 }
 
-pub fn append_number(out: &mut [u8], at: usize, n: u64) -> usize {
+pub fn append_number(out: &mut [u8], at: usize, n: u64) -> usize
+    ensures { λ r. ⌜ AfterNumber (now (out .entry)) at n r ⌝ }
+    ensures { λ r. ⌜ Onward (now (out .entry)) at r ⌝ }
+{
     let mut digits = [0u8; 20];
     let k = io::decimal(n, &mut digits);
     append(out, at, &digits[..k])
 }
 
-fn is_control(b: u8) -> bool {
+fn is_control(b: u8) -> bool
+    ensures { λ r. ⌜ r ≡ control b ⌝ }
+{
     b < 32 || b == 127
 }
 
 // Whether a field is written as it is.
-fn is_plain(s: &[u8]) -> bool {
+fn is_plain(s: &[u8]) -> bool
+    ensures { λ r. ⌜ r ≡ plain (now (s .entry)) ⌝ }
+{
     if s.len() == 0 {
         return true;
     }
@@ -50,7 +66,9 @@ fn is_plain(s: &[u8]) -> bool {
 }
 
 // The letter that stands for a byte after a `\`; 0 where there is none.
-fn letter(b: u8) -> u8 {
+fn letter(b: u8) -> u8
+    ensures { λ r. ⌜ r ≡ letterOf b ⌝ }
+{
     match b {
         7 => b'a',
         8 => b'b',
@@ -66,7 +84,10 @@ fn letter(b: u8) -> u8 {
 }
 
 // Puts a byte as it stands between quotes: a letter after a `\`, three octal digits after it, or itself.
-fn append_quoted(out: &mut [u8], at: usize, b: u8) -> usize {
+fn append_quoted(out: &mut [u8], at: usize, b: u8) -> usize
+    ensures { λ r. ⌜ r ≡ afterQuoted (length (now (out .entry))) at b ⌝ }
+    ensures { λ r. ⌜ Onward (now (out .entry)) at r ⌝ }
+{
     let l = letter(b);
     if l != 0 {
         let after = append_byte(out, at, b'\\');
@@ -83,7 +104,10 @@ fn append_quoted(out: &mut [u8], at: usize, b: u8) -> usize {
 }
 
 // Puts a field.
-pub fn append_field(out: &mut [u8], at: usize, s: &[u8]) -> usize {
+pub fn append_field(out: &mut [u8], at: usize, s: &[u8]) -> usize
+    ensures { λ r. ⌜ r ≡ afterField (length (now (out .entry))) at (now (s .entry)) ⌝ }
+    ensures { λ r. ⌜ Onward (now (out .entry)) at r ⌝ }
+{
     if is_plain(s) {
         return append(out, at, s);
     }

@@ -1,4 +1,7 @@
 // The rule files that the arguments give, lowest first: each file's bytes, the directory that it stands in, and which argument names it.
+ghost use mathlib.Core.Path.{_≡_};
+ghost use Rattle.entries.specs.Entries.{withoutSlash};
+ghost use Rattle.whichline.specs.Bounds.{SameFiles, Held};
 use crate::arguments;
 use crate::reading;
 use crate::words;
@@ -17,7 +20,9 @@ pub struct Given {
 }
 
 // The same, and something is wrong: it was said already.
-fn wrong(g: Given) -> Given {
+fn wrong(g: Given) -> Given
+    ensures { λ r. ⌜ SameFiles g r ⌝ }
+{
     Given {
         next: g.next,
         files: g.files,
@@ -56,7 +61,9 @@ fn add_file(i: usize, files: &mut [u8], used: usize) -> usize {
 }
 
 // A directory of the archive without its last slash, which may be given or not.
-pub fn without_slash(directory: &[u8]) -> &[u8] {
+pub fn without_slash(directory: &[u8]) -> &[u8]
+    ensures { λ r. ⌜ now r ≡ withoutSlash (now (directory .entry)) ⌝ }
+{
     let n = directory.len();
     if n == 0 {
         return directory;
@@ -107,7 +114,9 @@ fn add_directory(i: usize, directories: &mut [u8], used: usize) -> usize {
 }
 
 // The same, with the next argument to read and whether case is folded.
-fn go_on(g: Given, next: usize, fold: bool) -> Given {
+fn go_on(g: Given, next: usize, fold: bool) -> Given
+    ensures { λ r. ⌜ SameFiles g r ⌝ }
+{
     Given {
         next: next,
         files: g.files,
@@ -128,7 +137,10 @@ fn take_file(
     directories: &mut [u8],
     directory_ends: &mut [usize],
     names: &mut [usize],
-) -> Given {
+) -> Given
+    requires { ⌜ Held g (now files) (now «file_ends») (now directories) (now «directory_ends») (now names) ⌝ }
+    ensures { λ r. ⌜ Held r (now (files .exit)) (now («file_ends» .exit)) (now (directories .exit)) (now («directory_ends» .exit)) (now (names .exit)) ⌝ }
+{
     let k = g.files;
     if k >= file_ends.len() || k >= directory_ends.len() || k >= names.len() {
         words::wrong(b"over 256 rule files");
@@ -164,7 +176,10 @@ fn take_next(
     directories: &mut [u8],
     directory_ends: &mut [usize],
     names: &mut [usize],
-) -> Given {
+) -> Given
+    requires { ⌜ Held g (now files) (now «file_ends») (now directories) (now «directory_ends») (now names) ⌝ }
+    ensures { λ r. ⌜ Held r (now (files .exit)) (now («file_ends» .exit)) (now (directories .exit)) (now («directory_ends» .exit)) (now (names .exit)) ⌝ }
+{
     let i = g.next;
     let fold = g.fold;
     if i >= n {
@@ -202,6 +217,23 @@ fn take_next(
     )
 }
 
+// Whether argument `i` begins like an option; if it does, says that it is none.
+fn is_unknown(i: usize) -> bool {
+    let mut word = io::buffer();
+    let n = os::arg(i, &mut word);
+    if n < 2 {
+        return false;
+    }
+    if word[0] == b'-' && word[1] == b'-' {
+        words::about(
+            &word[..n],
+            b"an option that is not known (whichline --help)",
+        );
+        return true;
+    }
+    false
+}
+
 // Takes argument `i`, which is a rule file at the top, or an option that is not known.
 fn take_plain(
     i: usize,
@@ -211,8 +243,11 @@ fn take_plain(
     directories: &mut [u8],
     directory_ends: &mut [usize],
     names: &mut [usize],
-) -> Given {
-    if arguments::is_unknown(i) {
+) -> Given
+    requires { ⌜ Held g (now files) (now «file_ends») (now directories) (now «directory_ends») (now names) ⌝ }
+    ensures { λ r. ⌜ Held r (now (files .exit)) (now («file_ends» .exit)) (now (directories .exit)) (now («directory_ends» .exit)) (now (names .exit)) ⌝ }
+{
+    if is_unknown(i) {
         return wrong(g);
     }
     take_file(
@@ -228,7 +263,9 @@ fn take_plain(
 }
 
 // The same, and wrong if no rule file is given.
-fn not_none(g: Given) -> Given {
+fn not_none(g: Given) -> Given
+    ensures { λ r. ⌜ SameFiles g r ⌝ }
+{
     if g.right && g.files == 0 {
         words::wrong(b"no rule file is given");
         return wrong(g);
@@ -244,7 +281,9 @@ pub fn take_all(
     directories: &mut [u8],
     directory_ends: &mut [usize],
     names: &mut [usize],
-) -> Given {
+) -> Given
+    ensures { λ r. ⌜ Held r (now (files .exit)) (now («file_ends» .exit)) (now (directories .exit)) (now («directory_ends» .exit)) (now (names .exit)) ⌝ }
+{
     let n = os::arg_count();
     let mut g = Given {
         next: first,

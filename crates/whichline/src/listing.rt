@@ -1,4 +1,9 @@
 // The paths of a listing, one a line, read piece by piece from standard input.
+ghost use Prim.Native.Nat.{_≤_, _<_};
+ghost use mathlib.Core.Path.{_≡_};
+ghost use lib.ListN.{length};
+ghost use Rattle.whichline.specs.Listing.{nothingRead, lineEnd, foundLine, ended as endedLine, unended as unendedLine, looked};
+ghost use Rattle.whichline.specs.Bounds.{AtFront};
 use crate::reading;
 use crate::words;
 use libc::STDIN_FILENO;
@@ -34,7 +39,9 @@ pub enum Found {
 }
 
 // Nothing is read yet.
-pub fn at_start() -> Unread {
+pub fn at_start() -> Unread
+    ensures { λ r. ⌜ r ≡ nothingRead ⌝ }
+{
     Unread {
         start: 0,
         have: 0,
@@ -44,7 +51,9 @@ pub fn at_start() -> Unread {
 }
 
 // Where the first unread line ends, if it ends in what is read; else where that ends.
-fn line_end(buf: &[u8], start: usize, have: usize) -> usize {
+fn line_end(buf: &[u8], start: usize, have: usize) -> usize
+    ensures { λ r. ⌜ r ≡ lineEnd (now (buf .entry)) start have ⌝ }
+{
     if have > buf.len() {
         return have;
     }
@@ -55,7 +64,9 @@ fn line_end(buf: &[u8], start: usize, have: usize) -> usize {
 }
 
 // A line, or its front if it is too long.
-fn found_line(start: usize, end: usize, after: Unread) -> Found {
+fn found_line(start: usize, end: usize, after: Unread) -> Found
+    ensures { λ r. ⌜ r ≡ foundLine start end after ⌝ }
+{
     if end < start {
         return Found::Over;
     }
@@ -76,7 +87,9 @@ fn found_line(start: usize, end: usize, after: Unread) -> Found {
 }
 
 // The line whose newline stands at `end`, unless it is the rest of one that was too long.
-fn ended(u: Unread, end: usize) -> Found {
+fn ended(u: Unread, end: usize) -> Found
+    ensures { λ r. ⌜ (end < u .have → r ≡ endedLine u end) ⌝ }
+{
     if end >= u.have {
         return Found::Over;
     }
@@ -93,7 +106,9 @@ fn ended(u: Unread, end: usize) -> Found {
 }
 
 // What unread bytes without a newline come to. At the end of the input they are the last line, if there are any.
-fn unended(u: Unread) -> Found {
+fn unended(u: Unread) -> Found
+    ensures { λ r. ⌜ r ≡ unendedLine u ⌝ }
+{
     let rest = Unread {
         start: u.have,
         have: u.have,
@@ -120,7 +135,9 @@ fn unended(u: Unread) -> Found {
 }
 
 // Moves the unread bytes to the front, and answers how many there are.
-fn move_front(buf: &mut [u8], start: usize, have: usize) -> usize {
+fn move_front(buf: &mut [u8], start: usize, have: usize) -> usize
+    ensures { λ r. ⌜ r ≤ length (now (buf .exit)) ⌝ }
+{
     if have > buf.len() {
         return 0;
     }
@@ -135,7 +152,9 @@ fn move_front(buf: &mut [u8], start: usize, have: usize) -> usize {
 }
 
 // Nothing more is answered, not even an unfinished line: the input could not be read to its end.
-fn unreadable() -> Unread {
+fn unreadable() -> Unread
+    ensures { λ r. ⌜ (r .start ≡ 0) × (r .have ≡ 0) ⌝ }
+{
     words::failed(b"standard input");
     Unread {
         start: 0,
@@ -146,7 +165,9 @@ fn unreadable() -> Unread {
 }
 
 // Reads more behind the unread bytes. There is room: no more than a line's front is kept.
-pub fn read_more(buf: &mut [u8], u: Unread) -> Unread {
+pub fn read_more(buf: &mut [u8], u: Unread) -> Unread
+    ensures { λ r. ⌜ AtFront r (now (buf .exit)) ⌝ }
+{
     let have = move_front(buf, u.start, u.have);
     if have >= buf.len() {
         return unreadable();
@@ -164,7 +185,9 @@ pub fn read_more(buf: &mut [u8], u: Unread) -> Unread {
 }
 
 // What the unread bytes come to.
-pub fn look(buf: &[u8], u: Unread) -> Found {
+pub fn look(buf: &[u8], u: Unread) -> Found
+    ensures { λ r. ⌜ r ≡ looked (now (buf .entry)) u ⌝ }
+{
     let end = line_end(buf, u.start, u.have);
     if end < u.have {
         return ended(u, end);

@@ -12,8 +12,21 @@ mod written;
 
 use crate::arguments::Asked;
 
+// Whether any argument asks for help.
+fn wants_help() -> bool {
+    let n = os::arg_count();
+    let mut i = 1;
+    while i < n {
+        if arguments::is(i, b"--help") {
+            return true;
+        }
+        i += 1;
+    }
+    false
+}
+
 fn main() {
-    if arguments::wants_help() {
+    if wants_help() {
         words::help();
         return;
     }

@@ -1,4 +1,7 @@
 // What the program says beside its answers: its help, what is wrong, and the refusals in words.
+ghost use mathlib.Core.Path.{_≡_};
+ghost use lib.ListN.{length};
+ghost use Rattle.whichline.specs.Places.{after, Onward, reasonLength};
 use crate::fields::append;
 use crate::fields::append_field;
 use libc::STDERR_FILENO;
@@ -95,7 +98,10 @@ pub fn failed(what: &[u8]) {
 }
 
 // A refusal in words, as far as this program can get it: every file that is lent stands above the path.
-pub fn reason(number: u8, out: &mut [u8], at: usize) -> usize {
+pub fn reason(number: u8, out: &mut [u8], at: usize) -> usize
+    ensures { λ r. ⌜ r ≡ after (length (now (out .entry))) at (reasonLength number) ⌝ }
+    ensures { λ r. ⌜ Onward (now (out .entry)) at r ⌝ }
+{
     match number {
         1 => append(
             out,

@@ -1,4 +1,5 @@
 // An answer, written: its word, and where a line decided, the entry, the rule file and the line's number.
+ghost use Rattle.whichline.specs.Places.{Onward, AfterRefusal, AfterIgnore, AfterAttribute};
 use crate::fields::append;
 use crate::fields::append_field;
 use crate::fields::append_number;
@@ -11,7 +12,9 @@ use questions::Spoken;
 use rulefiles::Place;
 
 // Puts the name of the rule file that argument `i` names.
-fn append_name(out: &mut [u8], at: usize, i: usize) -> usize {
+fn append_name(out: &mut [u8], at: usize, i: usize) -> usize
+    ensures { λ r. ⌜ Onward (now (out .entry)) at r ⌝ }
+{
     let mut name = io::buffer();
     let n = os::arg(i, &mut name);
     append_field(out, at, &name[..n])
@@ -24,7 +27,9 @@ fn append_place(
     place: Place,
     numbers: &[usize],
     names: &[usize],
-) -> usize {
+) -> usize
+    ensures { λ r. ⌜ Onward (now (out .entry)) at r ⌝ }
+{
     let file = place.file;
     if file >= numbers.len() {
         return at;
@@ -40,7 +45,9 @@ fn append_place(
 }
 
 // Puts a refusal: its number and its reason.
-fn append_refusal(out: &mut [u8], at: usize, number: u8) -> usize {
+fn append_refusal(out: &mut [u8], at: usize, number: u8) -> usize
+    ensures { λ r. ⌜ AfterRefusal (now (out .entry)) at number r ⌝ }
+{
     let a = append(out, at, b"refused ");
     let b = append_number(out, a, number as u64);
     let c = append(out, b, b": ");
@@ -56,7 +63,9 @@ fn append_decided(
     line: &[u8],
     numbers: &[usize],
     names: &[usize],
-) -> usize {
+) -> usize
+    ensures { λ r. ⌜ Onward (now (out .entry)) at r ⌝ }
+{
     let n = d.length;
     let place = d.place;
     let a = append(out, at, verdict);
@@ -77,7 +86,9 @@ pub fn append_ignore(
     line: &[u8],
     numbers: &[usize],
     names: &[usize],
-) -> usize {
+) -> usize
+    ensures { λ r. ⌜ AfterIgnore (now (out .entry)) at answer r ⌝ }
+{
     match answer {
         IgnoreAnswer::Nothing => append(out, at, b"nothing"),
         IgnoreAnswer::Ignored(d) => append_decided(out, at, b"ignored", d, line, numbers, names),
@@ -95,7 +106,9 @@ pub fn append_ignore(
 }
 
 // Puts a value, which lies in the rules.
-fn append_value(out: &mut [u8], at: usize, rules: &[u8], start: usize, length: usize) -> usize {
+fn append_value(out: &mut [u8], at: usize, rules: &[u8], start: usize, length: usize) -> usize
+    ensures { λ r. ⌜ Onward (now (out .entry)) at r ⌝ }
+{
     let a = append(out, at, b"value ");
     if start > rules.len() {
         return a;
@@ -107,7 +120,9 @@ fn append_value(out: &mut [u8], at: usize, rules: &[u8], start: usize, length: u
 }
 
 // Puts a state, a value with its bytes.
-fn append_state(out: &mut [u8], at: usize, state: State, rules: &[u8]) -> usize {
+fn append_state(out: &mut [u8], at: usize, state: State, rules: &[u8]) -> usize
+    ensures { λ r. ⌜ Onward (now (out .entry)) at r ⌝ }
+{
     match state {
         State::Set => append(out, at, b"set"),
         State::Unset => append(out, at, b"unset"),
@@ -125,7 +140,9 @@ fn append_spoken(
     rules: &[u8],
     numbers: &[usize],
     names: &[usize],
-) -> usize {
+) -> usize
+    ensures { λ r. ⌜ Onward (now (out .entry)) at r ⌝ }
+{
     let state = s.state;
     let place = s.place;
     let a = append_state(out, at, state, rules);
@@ -143,7 +160,9 @@ pub fn append_attribute(
     rules: &[u8],
     numbers: &[usize],
     names: &[usize],
-) -> usize {
+) -> usize
+    ensures { λ r. ⌜ AfterAttribute (now (out .entry)) at answer r ⌝ }
+{
     match answer {
         AttributeAnswer::Nothing => append(out, at, b"nothing"),
         AttributeAnswer::Said(s) => append_spoken(out, at, s, line, rules, numbers, names),

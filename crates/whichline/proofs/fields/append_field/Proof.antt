@@ -1,13 +1,16 @@
--- The bytes left fall; `out` keeps its length.
+-- The bytes passed and those left come to where all of them do.
 use Prim.Native.Nat.{_-_, _≤_}
-use mathlib.Core.Path.{_≡_}
+use mathlib.Core.Path.{_≡_, refl, sym, _∙_}
+use native.Mathlib.Omega.{arith}
 use borrow.Author.Needs.{needs}
-use lib.ListN.{length}
+use lib.ListN.{length, drop}
+use Rattle.whichline.specs.Places.{Onward, afterBytes}
+use Rattle.whichline.proofs.PlaceLaws.{field-plain, field-quoted, bytes-turn, bytes-end}
 use Rattle.whichline.proofs.fields.append_field.Statement.{statement}
 use Rattle.whichline.proofs.fields.append_field.Tie as tie
 
 abbrev Inv-loop : tie.InvT-loop
-Inv-loop out₀ at s n₀ i₀ out n i = (i ≤ length s) × (length out ≡ length out₀)
+Inv-loop out₀ at s n₀ i₀ out n i = (i ≤ length s) × (length out ≡ length out₀) × (afterBytes (length out₀) n₀ s ≡ afterBytes (length out₀) n (drop i s)) × Onward out₀ at n
 
 abbrev μ-loop : tie.MeasureT-loop
 μ-loop out₀ at s n₀ i₀ out n i = length s - i
@@ -22,13 +25,15 @@ same-length : tie.Need-same-length Inv-loop μ-loop
 same-length c = search needs
 
 returns : tie.Need-returns Inv-loop μ-loop
-returns c = search needs
+returns c =
+    let put = c .before .before .append .ensures in
+    (field-plain _ _ _ _ (sym (c .before .before .before .before .before .is-plain .ensures) ∙ c .before .before .before .before .if1 .taken) (put .0), put .1)
 
 append-byte-requires : tie.Need-append-byte-requires Inv-loop μ-loop
 append-byte-requires c κs = search needs
 
 loop-holds : tie.Need-loop-holds Inv-loop μ-loop
-loop-holds c = search needs
+loop-holds c = (omega arith, omega arith, refl, omega arith)
 
 shared-slice-read-append-quoted : tie.Need-shared-slice-read-append-quoted Inv-loop μ-loop
 shared-slice-read-append-quoted c = search needs
@@ -43,7 +48,9 @@ loop-less : tie.Need-loop-less Inv-loop μ-loop
 loop-less c = search needs
 
 loop-again : tie.Need-loop-again Inv-loop μ-loop
-loop-again c = search needs
+loop-again c =
+    let law = bytes-turn _ _ _ _ _ _ _ (c .before .before .before .before .before .loop-test .taken) (c .before .before .append-quoted .ensures .0) (c .before .before .before .before .before .before .loop .inv .2) in
+    (omega arith, omega arith, law (omega arith), omega arith)
 
 append-byte-requires-2 : tie.Need-append-byte-requires-2 Inv-loop μ-loop
 append-byte-requires-2 c κs = search needs
@@ -52,7 +59,11 @@ same-length-2 : tie.Need-same-length-2 Inv-loop μ-loop
 same-length-2 c = search needs
 
 returns-2 : tie.Need-returns-2 Inv-loop μ-loop
-returns-2 c = search needs
+returns-2 c =
+    let l = c .before .before .before .before .before in
+    let end = bytes-end _ _ _ _ _ (c .before .before .before .before .loop-test .left) (l .loop .inv .2) in
+    let law = field-quoted _ _ _ _ _ _ _ _ (sym (l .before .before .before .before .before .before .is-plain .ensures) ∙ l .before .before .before .before .before .if1 .left) (l .before .before .before .append-byte .ensures .0) end (c .before .before .append-byte2 .ensures .0) in
+    (law (omega arith) (omega arith), omega arith)
 
 pub append-field-spec : {M : Type 1} → statement M
 append-field-spec =

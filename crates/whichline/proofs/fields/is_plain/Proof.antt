@@ -1,24 +1,28 @@
--- The bytes left fall.
+-- The bytes passed are text, so all are where those left are.
 use Prim.Native.Nat.{_-_, _≤_}
+use mathlib.Core.Path.{_≡_, sym, _∙_}
+use native.Mathlib.Omega.{arith}
 use borrow.Author.Needs.{needs}
-use lib.ListN.{length}
+use lib.ListN.{length, drop}
+use Rattle.whichline.specs.Places.{isText}
+use Rattle.whichline.proofs.PlaceLaws.{empty-plain, quote-first, plain-text, text-next, text-stops, text-ends}
 use Rattle.whichline.proofs.fields.is_plain.Statement.{statement}
 use Rattle.whichline.proofs.fields.is_plain.Tie as tie
 
 abbrev Inv-loop : tie.InvT-loop
-Inv-loop s i₀ i = i ≤ length s
+Inv-loop s i₀ i = (i ≤ length s) × (isText s ≡ isText (drop i s))
 
 abbrev μ-loop : tie.MeasureT-loop
 μ-loop s i₀ i = length s - i
 
 returns : tie.Need-returns Inv-loop μ-loop
-returns c = search needs
+returns c = empty-plain _ (c .if1 .taken)
 
 shared-slice-read-if2 : tie.Need-shared-slice-read-if2 Inv-loop μ-loop
 shared-slice-read-if2 c = search needs
 
 returns-2 : tie.Need-returns-2 Inv-loop μ-loop
-returns-2 c = search needs
+returns-2 c = quote-first _ (c .before .before .if1 .left) (c .if2 .taken)
 
 loop-holds : tie.Need-loop-holds Inv-loop μ-loop
 loop-holds c = search needs
@@ -30,7 +34,9 @@ is-control-requires : tie.Need-is-control-requires Inv-loop μ-loop
 is-control-requires c κs = search needs
 
 returns-3 : tie.Need-returns-3 Inv-loop μ-loop
-returns-3 c = search needs
+returns-3 c =
+    let l = c .before .before .before .before in
+    plain-text _ _ (l .before .before .before .if1 .left) (l .before .if2 .left) (l .loop .inv .1 ∙ text-stops _ _ (c .before .before .before .loop-test .taken) (sym (c .before .is-control .ensures) ∙ c .if3 .taken))
 
 add-i : tie.Need-add-i Inv-loop μ-loop
 add-i c = search needs
@@ -39,10 +45,13 @@ loop-less : tie.Need-loop-less Inv-loop μ-loop
 loop-less c = search needs
 
 loop-again : tie.Need-loop-again Inv-loop μ-loop
-loop-again c = search needs
+loop-again c =
+    (omega arith, c .before .before .before .before .loop .inv .1 ∙ text-next _ _ (c .before .before .before .loop-test .taken) (sym (c .before .is-control .ensures) ∙ c .if3 .left))
 
 returns-4 : tie.Need-returns-4 Inv-loop μ-loop
-returns-4 c = search needs
+returns-4 c =
+    let l = c .before in
+    plain-text _ _ (l .before .before .before .if1 .left) (l .before .if2 .left) (l .loop .inv .1 ∙ text-ends _ _ (c .loop-test .left))
 
 pub is-plain-spec : {M : Type 1} → statement M
 is-plain-spec =

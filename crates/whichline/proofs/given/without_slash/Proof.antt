@@ -1,13 +1,14 @@
--- The part is as long as it says.
+-- The last byte is a slash and goes, or all is kept.
 use mathlib.Core.Path.{sym}
 use native.Mathlib.Omega.{arith}
 use borrow.Author.Needs.{needs}
 use lib.Seq.{length-take-le}
+use Rattle.whichline.proofs.SlashLaws.{nothing-kept, slash-goes, other-stays}
 use Rattle.whichline.proofs.given.without_slash.Statement.{statement}
 use Rattle.whichline.proofs.given.without_slash.Tie as tie
 
 returns : tie.Need-returns
-returns c = search needs
+returns c = nothing-kept _ (c .if1 .taken)
 
 sub-if2 : tie.Need-sub-if2
 sub-if2 c = search needs
@@ -22,10 +23,10 @@ slice-aggregate-result : tie.Need-slice-aggregate-result
 slice-aggregate-result c = sym (length-take-le _ _ (omega arith))
 
 returns-2 : tie.Need-returns-2
-returns-2 c = search needs
+returns-2 c = slash-goes (c .before .before .before .before .args .directory .now) (c .before .before .before .if1 .left) (c .before .if2 .taken)
 
 returns-3 : tie.Need-returns-3
-returns-3 c = search needs
+returns-3 c = other-stays _ (c .before .before .if1 .left) (c .if2 .left)
 
 pub without-slash-spec : {M : Type 1} → statement M
 without-slash-spec =

@@ -8,7 +8,7 @@ use Rattle.whichline.proofs.listing.move_front.Statement.{statement}
 use Rattle.whichline.proofs.listing.move_front.Tie as tie
 
 abbrev Inv-loop : tie.InvT-loop
-Inv-loop buf₀ start have n₀ i₀ buf n i = (n + start ≤ i) × (have ≤ length buf) × (length buf ≡ length buf₀)
+Inv-loop buf₀ start have n₀ i₀ buf n i = (n + start ≤ i) × (n ≤ have) × (have ≤ length buf) × (length buf ≡ length buf₀)
 
 abbrev μ-loop : tie.MeasureT-loop
 μ-loop buf₀ start have n₀ i₀ buf n i = have - i
@@ -35,7 +35,7 @@ loop-less : tie.Need-loop-less Inv-loop μ-loop
 loop-less c = search needs
 
 loop-again : tie.Need-loop-again Inv-loop μ-loop
-loop-again c = (omega arith, simp length-set (omega arith), simp length-set (omega arith))
+loop-again c = (omega arith, omega arith, simp length-set (omega arith), simp length-set (omega arith))
 
 same-length : tie.Need-same-length Inv-loop μ-loop
 same-length c = search needs

@@ -1,13 +1,16 @@
--- The room left falls.
+-- The room left falls, and the place stays within the buffer.
 use Prim.Native.Nat.{_-_}
-use mathlib.Core.Path.{_≡_}
+use mathlib.Core.Path.{_≡_, refl}
+use mathlib.Core.Logic.{inl, inr}
+use native.Mathlib.Omega.{arith}
 use borrow.Author.Needs.{needs}
 use lib.ListN.{length}
+use Rattle.whichline.specs.Places.{Onward}
 use Rattle.whichline.proofs.reading.read_behind.Statement.{statement}
 use Rattle.whichline.proofs.reading.read_behind.Tie as tie
 
 abbrev Inv-loop : tie.InvT-loop
-Inv-loop fd buf₀ used at₀ buf at = length buf ≡ length buf₀
+Inv-loop fd buf₀ used at₀ buf at = (length buf ≡ length buf₀) × Onward buf₀ used at
 
 abbrev μ-loop : tie.MeasureT-loop
 μ-loop fd buf₀ used at₀ buf at = length buf - at
@@ -31,7 +34,7 @@ same-length : tie.Need-same-length Inv-loop μ-loop
 same-length c = search needs
 
 returns : tie.Need-returns Inv-loop μ-loop
-returns c = search needs
+returns c = inr (omega arith)
 
 sub-if2 : tie.Need-sub-if2 Inv-loop μ-loop
 sub-if2 c = search needs
@@ -40,7 +43,7 @@ same-length-2 : tie.Need-same-length-2 Inv-loop μ-loop
 same-length-2 c = search needs
 
 returns-2 : tie.Need-returns-2 Inv-loop μ-loop
-returns-2 c = search needs
+returns-2 c = inl refl
 
 add-at : tie.Need-add-at Inv-loop μ-loop
 add-at c = search needs
@@ -55,7 +58,7 @@ same-length-3 : tie.Need-same-length-3 Inv-loop μ-loop
 same-length-3 c = search needs
 
 returns-3 : tie.Need-returns-3 Inv-loop μ-loop
-returns-3 c = search needs
+returns-3 c = inr (omega arith)
 
 pub read-behind-spec : {M : Type 1} → statement M
 read-behind-spec =

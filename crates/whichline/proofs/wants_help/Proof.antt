@@ -3,8 +3,8 @@ use Prim.Native.Nat.{_-_}
 use mathlib.Core.Path.{_≡_}
 use borrow.Author.Needs.{needs}
 use lib.ListN.{length}
-use Rattle.whichline.proofs.arguments.wants_help.Statement.{statement}
-use Rattle.whichline.proofs.arguments.wants_help.Tie as tie
+use Rattle.whichline.proofs.wants_help.Statement.{statement}
+use Rattle.whichline.proofs.wants_help.Tie as tie
 
 abbrev Inv-loop : tie.InvT-loop
 Inv-loop n i₀ t3 i = (6 ≡ length t3)
