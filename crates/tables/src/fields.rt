@@ -1,7 +1,11 @@
 // A row's fields, and the bytes that they write.
 ghost use Prim.Native.Nat.{_+_, _≤_, _<_};
 ghost use lib.ListN.{length};
+ghost use mathlib.Core.Path.{_≡_};
+ghost use mathlib.Core.Bool.{_&&_};
+ghost use lib.Dec.{leb};
 ghost use Rattle.tables.specs.Results.{CountOrFailed};
+ghost use Rattle.tables.specs.Fields.{hexValue, isHex, width, isWhole, decoded};
 
 // Where the first byte `b` at `from` or after it stands; the end where there is none.
 pub fn find(s: &[u8], from: usize, b: u8) -> usize
@@ -33,7 +37,9 @@ pub fn section_len(row: &[u8]) -> usize
 }
 
 // The value of a hexadecimal digit; 16 for any other byte.
-fn hex_value(b: u8) -> u8 {
+fn hex_value(b: u8) -> u8
+    ensures { λ r. ⌜ r ≡ hexValue b ⌝ }
+{
     if b >= b'0' && b <= b'9' {
         return b - b'0';
     }
@@ -44,12 +50,16 @@ fn hex_value(b: u8) -> u8 {
 }
 
 // A byte as a number that has room for 256.
-fn wide(b: u8) -> u16 {
+fn wide(b: u8) -> u16
+    ensures { λ r. ⌜ r ≡ b ⌝ }
+{
     b as u16
 }
 
 // The byte that two hexadecimal digits write; 256 where one of them is none.
-fn hex_byte(first: u8, second: u8) -> u16 {
+fn hex_byte(first: u8, second: u8) -> u16
+    ensures { λ r. ⌜ leb r 255 ≡ (isHex first && isHex second) ⌝ }
+{
     let high = hex_value(first);
     let low = hex_value(second);
     if high > 15 {
@@ -65,6 +75,7 @@ fn hex_byte(first: u8, second: u8) -> u16 {
 fn written_len(s: &[u8], at: usize) -> usize
     requires { ⌜ at < length (now s) ⌝ }
     ensures { λ r. ⌜ at + r ≤ length (now (s .entry)) ⌝ }
+    ensures { λ r. ⌜ r ≡ width (now (s .entry)) at ⌝ }
 {
     if s[at] != b'%' {
         return 1;
@@ -78,6 +89,7 @@ fn written_len(s: &[u8], at: usize) -> usize
 // The byte that `len` bytes at `at` write; 256 for a broken escape.
 fn written(s: &[u8], at: usize, len: usize) -> u16
     requires { ⌜ (at < length (now s)) × (at + len ≤ length (now s)) ⌝ }
+    ensures { λ r. ⌜ leb r 255 ≡ isWhole (now (s .entry)) at len ⌝ }
 {
     if len < 3 {
         return wide(s[at]);
@@ -88,6 +100,7 @@ fn written(s: &[u8], at: usize, len: usize) -> u16
 // Puts the bytes that a field writes into `out`, and answers how many. The largest number stands for a field that does
 // not fit or has a broken escape.
 pub fn decode(field: &[u8], out: &mut [u8]) -> usize
+    ensures { λ r. ⌜ r ≡ decoded (length (now (out .entry))) (now (field .entry)) ⌝ }
     ensures { λ r. ⌜ CountOrFailed r (now (out .exit)) ⌝ }
 {
     let mut i = 0;

@@ -1,7 +1,10 @@
--- Both places stay within their bytes, and `out` keeps its length.
-use mathlib.Core.Path.{_≡_, refl}
+-- What is decoded and what is left come to what the whole field does.
+use mathlib.Core.Path.{_≡_, refl, sym, _∙_}
 use mathlib.Core.Logic.{inl, inr}
-use lib.ListN.{length, length-set}
+use borrow.Author.Tests.{le-leb, lt-leb}
+use lib.ListN.{length, drop, length-set}
+use Rattle.tables.specs.Fields.{decodedFrom, decoded}
+use Rattle.tables.proofs.FieldLaws.{cut-off, broken, full, written, over}
 use Prim.Native.Nat.{_≤_, _-_}
 use native.Mathlib.Omega.{arith}
 use borrow.Author.Needs.{needs}
@@ -9,7 +12,7 @@ use Rattle.tables.proofs.fields.decode.Statement.{statement}
 use Rattle.tables.proofs.fields.decode.Tie as tie
 
 abbrev Inv-loop : tie.InvT-loop
-Inv-loop field out₀ i₀ n₀ out i n = (i ≤ length field) × (n ≤ length out) × (length out ≡ length out₀)
+Inv-loop field out₀ i₀ n₀ out i n = (i ≤ length field) × (n ≤ length out) × (length out ≡ length out₀) × (decodedFrom (length out₀) 0 0 field ≡ decodedFrom (length out₀) n 0 (drop i field))
 
 abbrev μ-loop : tie.MeasureT-loop
 μ-loop field out₀ i₀ n₀ out i n = length field - i
@@ -24,7 +27,9 @@ same-length : tie.Need-same-length Inv-loop μ-loop
 same-length c = search needs
 
 returns : tie.Need-returns Inv-loop μ-loop
-returns c = inl refl
+unfolding decoded
+returns c =
+    (cut-off _ _ _ _ (c .before .before .loop-test .taken) (sym (c .before .written-len .ensures .1) ∙ c .if1 .taken) ∙ sym (c .before .before .before .loop .inv .3), inl refl)
 
 written-requires : tie.Need-written-requires Inv-loop μ-loop
 written-requires c κs = search needs
@@ -33,13 +38,19 @@ same-length-2 : tie.Need-same-length-2 Inv-loop μ-loop
 same-length-2 c = search needs
 
 returns-2 : tie.Need-returns-2 Inv-loop μ-loop
-returns-2 c = inl refl
+unfolding decoded
+returns-2 c =
+    let whole = sym (c .before .written .ensures) ∙ lt-leb _ _ (c .if2 .taken) in
+    (broken _ _ _ _ (c .before .before .before .before .loop-test .taken) _ (c .before .before .before .written-len .ensures .1) whole ∙ sym (c .before .before .before .before .before .loop .inv .3), inl refl)
 
 same-length-3 : tie.Need-same-length-3 Inv-loop μ-loop
 same-length-3 c = search needs
 
 returns-3 : tie.Need-returns-3 Inv-loop μ-loop
-returns-3 c = inl refl
+unfolding decoded
+returns-3 c =
+    let l = c .before .before .before .before .before .before in
+    (full (length (l .before .before .before .args .out .now)) (l .loop .n) _ _ (c .before .before .before .before .before .loop-test .taken) (omega arith) ∙ sym (l .loop .inv .3), inl refl)
 
 cast-out : tie.Need-cast-out Inv-loop μ-loop
 cast-out c = search needs
@@ -57,13 +68,20 @@ loop-less : tie.Need-loop-less Inv-loop μ-loop
 loop-less c = search needs
 
 loop-again : tie.Need-loop-again Inv-loop μ-loop
-loop-again c = (omega arith, simp length-set (omega arith), simp length-set (omega arith))
+loop-again c =
+    let l = c .before .before .before .before .before .before in
+    let len = c .before .before .before .before .written-len in
+    let whole = sym (c .before .before .written .ensures) ∙ le-leb _ _ (c .before .if2 .left) in
+    let next = written (length (l .before .before .before .args .out .now)) (l .loop .n) _ _ (c .before .before .before .before .before .loop-test .taken) (len .result) (len .ensures .1) (omega arith) whole (omega arith) in
+    (omega arith, simp length-set (omega arith), simp length-set (omega arith), l .loop .inv .3 ∙ next)
 
 same-length-4 : tie.Need-same-length-4 Inv-loop μ-loop
 same-length-4 c = search needs
 
 returns-4 : tie.Need-returns-4 Inv-loop μ-loop
-returns-4 c = inr (omega arith)
+unfolding decoded
+returns-4 c =
+    (over _ _ _ _ (c .loop-test .left) ∙ sym (c .before .loop .inv .3), inr (omega arith))
 
 pub decode-spec : {M : Type 1} → statement M
 decode-spec =
