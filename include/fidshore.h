@@ -111,8 +111,8 @@ uint32_t fidshore_match(const uint8_t *pattern, size_t pattern_len,
  * Time: 1.2 us for 10 lines and 65 us for 1,000, with a path of six components.
  * The rules are read again for each component. A path of hundreds of
  * components with lines written against it may take minutes: bound the path's
- * depth and length where the rules come from strangers. No lines known take
- * over 0.4 s at 16 components and 256 bytes; 64 in 4,096 take 20 s or more.
+ * depth and length where the rules come from strangers. The slowest lines known
+ * take 0.5 s at 16 components and 256 bytes, over 20 s at 64 and 4,096.
  * Threads, buffers, null pointers: as said above.
  *
  *     static const uint8_t rules[] = "cal/\n!cal/h07.jpg\n", path[] = "cal/h07.jpg";

@@ -86,10 +86,10 @@ module _ (fold : Bool) (rest component : List ℕ) where
           go false path = no-text path (x ∷ y ∷ p) h
 
   pub excludes-last : (p : List ℕ) (c : ℕ) (r : Bool) → (length p ≡ 0 → ⊥) → getD p (length p - 1) 0 ≡ c → endTaken fold c rest ≡ false → endTaken fold c component ≡ false
-      → (c ≡ 42 → ⊥) → (c ≡ 47 → ⊥) → (c ≡ 63 → ⊥) → (c ≡ 92 → ⊥) → r ≡ not (eqb c 93) → Excludes fold rest component p r
+      → (c ≡ 42 → ⊥) → (c ≡ 47 → ⊥) → (c ≡ 63 → ⊥) → r ≡ not (eqb c 93) → Excludes fold rest component p r
   unfolding Excludes
-  excludes-last p c r l e tr tc star slash any escape q w =
-      excluded c (star, slash, any, escape, eqb-false c 93 (not-true (eqb c 93) (sym q ∙ w))) tr tc p (ends-at c p (length p - 1) (omega (arith, l)) e)
+  excludes-last p c r l e tr tc star slash any q w =
+      excluded c (star, slash, any, eqb-false c 93 (not-true (eqb c 93) (sym q ∙ w))) tr tc p (ends-at c p (length p - 1) (omega (arith, l)) e)
 
 -- The first bytes.
 

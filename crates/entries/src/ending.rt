@@ -20,7 +20,8 @@ pub fn ends_in(c: u8, text: &[u8], fold: bool) -> bool
 }
 
 // Whether the pattern matches neither text, since it ends in a literal that accepts the last byte of neither. At its end any byte is a
-// literal, with a `\` before it or not, but `*`, `?`, `]` and `\`, which need not be one, and `/`, which may take nothing.
+// literal, with a `\` before it or not, but `*`, `?` and `]`, which need not be one, and `/`, which may take nothing. (A last `\` that is no
+// literal breaks the pattern, which then matches nothing.)
 pub fn cannot_match(pattern: &[u8], rest: &[u8], component: &[u8], fold: bool) -> bool
     ensures { λ r. ⌜ Excludes fold (now (rest .entry)) (now (component .entry)) (now (pattern .entry)) r ⌝ }
 {
@@ -42,9 +43,6 @@ pub fn cannot_match(pattern: &[u8], rest: &[u8], component: &[u8], fold: bool) -
         return false;
     }
     if c == 63 {
-        return false;
-    }
-    if c == 92 {
         return false;
     }
     c != 93

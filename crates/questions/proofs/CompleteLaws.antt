@@ -1,4 +1,4 @@
--- Complete answers: a refusal has one number, no other answer is one, and an answer is fixed by its number and values.
+-- Complete answers: a refusal has one number, no other answer is one, each number has so many values, and an answer is fixed by them.
 use Prim.Native.Nat.{ℕ, zero, suc, _+_, _-_, _≤_, _<_}
 use native.Mathlib.Omega.{arith}
 use mathlib.Core.Path.{_≡_, refl, sym, ap, subst, _∙_}
@@ -100,6 +100,56 @@ module _ (C : ℕ → Type 0) (answer : Complete) where
       go : ((n : ℕ) × (a ≡ refusal n)) ⊎ ((n : ℕ) → a ≡ refusal n → ⊥) → a ≡ b
       go (inl e) = e .1 ∙ sym (rb (e .0) .1 (ra (e .0) .0 (e .1)))
       go (inr e) = let all = none-lowest C (λ n h. e n (ra n .1 h)) in aa all ∙ sym (ab all)
+
+-- How many values a number has: "nothing said gives no numbers", and "A refusal carries its number and nothing else."
+
+abbrev ignoreCount : ℕ → ℕ
+ignoreCount zero = 0
+ignoreCount (suc zero) = 3
+ignoreCount (suc (suc zero)) = 3
+ignoreCount (suc (suc (suc n))) = 0
+
+ignore-none : (m : ℕ) → 4 < m → 0 ≡ ignoreCount m
+ignore-none zero h = absurd (omega arith)
+ignore-none (suc zero) h = absurd (omega arith)
+ignore-none (suc (suc zero)) h = absurd (omega arith)
+ignore-none (suc (suc (suc m))) h = refl
+
+pub ignore-count : (a : IgnoreAnswer) → length (completeIgnore a .values) ≡ ignoreCount (completeIgnore a .number)
+unfolding completeIgnore
+ignore-count Nothing = refl
+ignore-count (Ignored d) = refl
+ignore-count (Reincluded d) = refl
+ignore-count (Refused n) = ignore-none (16 + n) (omega arith)
+
+abbrev attributeCount : ℕ → ℕ
+attributeCount zero = 0
+attributeCount (suc zero) = 2
+attributeCount (suc (suc zero)) = 2
+attributeCount (suc (suc (suc zero))) = 4
+attributeCount (suc (suc (suc (suc zero)))) = 2
+attributeCount (suc (suc (suc (suc (suc n))))) = 0
+
+attribute-none : (m : ℕ) → 4 < m → 0 ≡ attributeCount m
+attribute-none zero h = absurd (omega arith)
+attribute-none (suc zero) h = absurd (omega arith)
+attribute-none (suc (suc zero)) h = absurd (omega arith)
+attribute-none (suc (suc (suc zero))) h = absurd (omega arith)
+attribute-none (suc (suc (suc (suc zero)))) h = absurd (omega arith)
+attribute-none (suc (suc (suc (suc (suc m))))) h = refl
+
+stated-count : (s : State) (p : Place) → length (stated s p .values) ≡ attributeCount (stateNumber s)
+unfolding stateNumber stateValues
+stated-count Set p = refl
+stated-count Unset p = refl
+stated-count (Value v) p = refl
+stated-count Unspecified p = refl
+
+pub attribute-count : (a : AttributeAnswer) → length (completeAttribute a .values) ≡ attributeCount (completeAttribute a .number)
+unfolding completeAttribute
+attribute-count NoLineSpoke = refl
+attribute-count (Said s) = stated-count (s .state) (s .place)
+attribute-count (AttributeRefused n) = attribute-none (16 + n) (omega arith)
 
 -- From the number and the values back to the answer.
 

@@ -20,9 +20,10 @@ use Rattle.wildmatch.specs.Test.{matchesTest}
 use Rattle.wildmatch.specs.Meaning.{test-decides}
 use Rattle.wildmatch.specs.declared.Mode.{Mode}
 
--- with nothing after it, c is a literal, whether a `\` stands before it or not: a run ends in `*`, a class in `]`. A `/` may vanish
+-- with nothing after it, c is a literal, whether a `\` stands before it or not, or, a `\` itself, breaks the pattern: a run ends in `*`, a class
+-- in `]`. A `/` may vanish
 abbrev pub Plain : ℕ → Type 0
-Plain c = (c ≡ 42 → ⊥) × (c ≡ 47 → ⊥) × (c ≡ 63 → ⊥) × (c ≡ 92 → ⊥) × (c ≡ 93 → ⊥)
+Plain c = (c ≡ 42 → ⊥) × (c ≡ 47 → ⊥) × (c ≡ 63 → ⊥) × (c ≡ 93 → ⊥)
 
 -- the last byte is c
 abbrev pub EndsIn : ℕ → List ℕ → Type 0
@@ -87,7 +88,7 @@ module _ (c : ℕ) (plain : Plain c) where
   class-before x p none e h = tt
   class-before x p (some k) e h =
       let s = class-size p k e in
-      ⊎-elim (λ q. let l : length p ≡ suc (k .size - 1) = omega (arith, s .0) in absurd (plain .4 (sym (ends-last c p (k .size - 1) l h) ∙ s .2)))
+      ⊎-elim (λ q. let l : length p ≡ suc (k .size - 1) = omega (arith, s .0) in absurd (plain .3 (sym (ends-last c p (k .size - 1) l h) ∙ s .2)))
       (λ q. inl (omega arith)) (eq-or-lt-of-le (s .1))
 
   escaped-before : (x y : ℕ) (p : List ℕ) → EndsIn c (y ∷ p) → Fits c (x ∷ y ∷ p) (readEscaped (y ∷ p))

@@ -20,7 +20,7 @@ pub fn run<A: Asks>(check: &mut Check<A>, random: &mut Random, question: &Questi
     }
     let percent = *random.pick(&[10, 50, 100]);
     let chosen: Vec<&Line> = idle.iter().filter(|_| random.chance(percent)).collect();
-    let blanked = Question { rules: blank(&question.rules, &chosen), ..question.clone() };
+    let blanked = Question { rules: blank(&question.rules, &chosen, random), ..question.clone() };
     let before = check.archive.ask(question);
     let after = check.archive.ask(&blanked);
     check.judge(&blanked, &before, &after);
@@ -49,11 +49,12 @@ fn deciding(question: &Question) -> Vec<Line> {
 }
 
 /// "To blank a line is to overwrite all its bytes but the newline with
-/// spaces": a BOM and a CR are among them.
-fn blank(rules: &[u8], chosen: &[&Line]) -> Vec<u8> {
+/// spaces": a CR is among them and, for each file as it falls, its BOM or not.
+fn blank(rules: &[u8], chosen: &[&Line], random: &mut Random) -> Vec<u8> {
     let mut rules = rules.to_vec();
     for line in chosen {
-        rules[line.raw.clone()].fill(b' ');
+        let bytes = if random.chance(50) { &line.raw } else { &line.text };
+        rules[bytes.clone()].fill(b' ');
     }
     rules
 }

@@ -36,14 +36,11 @@ returns-6 : tie.Need-returns-6
 returns-6 c = excludes-none _ _ _ _
 
 returns-7 : tie.Need-returns-7
-returns-7 c = excludes-none _ _ _ _
-
-returns-8 : tie.Need-returns-8
-returns-8 c =
-    let component = c .before .before .before .before in
+returns-7 c =
+    let component = c .before .before .before in
     let rest = component .before .before in
     excludes-last _ _ _ _ _ _ (rest .before .before .before .if1 .left) refl (sym (rest .before .ends-in .ensures) ∙ rest .if2 .left) (sym (component .before .ends-in2 .ensures) ∙ component .if3 .left)
-    (c .before .before .before .if4 .left) (c .before .before .if5 .left) (c .before .if6 .left) (c .if7 .left) refl
+    (c .before .before .if4 .left) (c .before .if5 .left) (c .if6 .left) refl
 
 pub cannot-match-spec : {M : Type 1} → statement M
 cannot-match-spec =
@@ -59,5 +56,4 @@ cannot-match-spec =
     returns-4
     returns-5
     returns-6
-    returns-7
-    returns-8)
+    returns-7)
