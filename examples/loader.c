@@ -5,7 +5,8 @@
  *
  * FOLDER holds the rule files of each layer (fleet.ignore, fleet.attributes,
  * site.ignore, site.attributes) and listing.txt, one path of a file a line, ended
- * by a newline alone: a CR would be part of the path, and no line would match it.
+ * by a newline alone: the CR of a CRLF line end would be part of the path, which
+ * is then refused (1), and so neither loaded nor filled.
  * Prints one line a path. Status 0; 1 if a question was refused; 2 if a file
  * could not be read, and then nothing is loaded or filled.
  *
@@ -47,7 +48,7 @@
 static const char *const layers[] = { "fleet", "site" };
 
 static const char *const reasons[] = {
-    [1] = "the path is empty or too long, holds byte 0, or has a misplaced `/` or a component `.` or `..`",
+    [1] = "the path is empty or too long, holds a control byte (as the CR of a CRLF line end), or has a misplaced `/` or a component `.` or `..`",
     [3] = "the rules have over 65,536 bytes",
     [4] = "byte 0 in the rules",
     [5] = "a line of the rules has over 2,048 bytes",

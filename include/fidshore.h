@@ -16,8 +16,10 @@
  *
  *   | No. | Given exactly when                                          | By           |
  *   |-----|-------------------------------------------------------------|--------------|
- *   | 1   | the path is empty, over 4,096 bytes, holds byte 0, has `/`  | ignore,      |
- *   |     | first, last or doubled, or a component `.` or `..`          | attribute    |
+ *   | 1   | the path is empty, over 4,096 bytes, holds a control byte   | ignore,      |
+ *   |     | (any below 32, as the CR of a listing with CRLF line ends,  | attribute    |
+ *   |     | or 127), has `/` first, last or doubled, or a component `.` |              |
+ *   |     | or `..`                                                     |              |
  *   | 2   | rule files wrongly lent: no C call can get it, since each   | none from C  |
  *   |     | lends one file                                              |              |
  *   | 3   | the rule bytes are over 65,536                              | ignore, attr.|
@@ -100,8 +102,9 @@ uint32_t fidshore_match(const uint8_t *pattern, size_t pattern_len,
 /* Is the path kept out by these ignore lines? First by its topmost ignored
  * directory, else by the last line that matches it.
  *
- * The path is relative to the archive's top, with no `/` first or last. The
- * directories above it are judged too; the flag is about the path itself.
+ * The path is relative to the archive's top, with no `/` first or last and no
+ * control byte. The directories above it are judged too; the flag is about the
+ * path itself.
  *
  * Flags: FIDSHORE_DIRECTORY (the path is a directory), FIDSHORE_FOLD.
  * Codes: FIDSHORE_NOTHING_SAID and FIDSHORE_RE_INCLUDED: not ignored;

@@ -10,7 +10,7 @@ use lib.ListN.{length}
 use borrow.Author.Tests.{eqb-true}
 use Rattle.refusals.specs.Limits.{pathLimit}
 use Rattle.refusals.specs.Refusals.{HoldsZero}
-use Rattle.refusals.specs.Questions.{SlashMisplaced, Starts, Ends, Component, DotComponent, BadPath}
+use Rattle.refusals.specs.Questions.{SlashMisplaced, Starts, Ends, Component, DotComponent, HoldsControl, BadPath}
 use Rattle.refusals.specs.Scans.{endsHere, dotsHere, badHere, badLater}
 use Rattle.refusals.proofs.Says.{or-cases, and-parts}
 use Rattle.refusals.proofs.ScanLaws.{dots-end}
@@ -65,7 +65,7 @@ fault s before w g =
     let e : before ++ s ≡ before ++ g .bytes ++ g .after = ap (λ (x : List ℕ). before ++ x) (g .stands) ∙ sym (append-assoc before (g .bytes) (g .after)) in
     ⊎-elim
     (λ h. ⊎-elim (λ x. inl x) (λ x. inr (inr (inr (inl x)))) (misplaced (before ++ s) before (g .after) (e ∙ ap (λ (x : List ℕ). before ++ x ++ g .after) h ∙ ap (λ (x : List ℕ). x ++ g .after) (append-nil before)) w (g .ends)))
-    (λ h. inr (inr (inr (inr (⊎-elim (λ k. inl (dotted e k)) (λ k. inr (dotted e k)) h)))))
+    (λ h. inr (inr (inr (inr (inl (⊎-elim (λ k. inl (dotted e k)) (λ k. inr (dotted e k)) h))))))
     (g .bad)
   where
     dotted : {c : List ℕ} → before ++ s ≡ before ++ g .bytes ++ g .after → g .bytes ≡ c → Component (before ++ s) c
@@ -118,11 +118,15 @@ unfolding badHere dotsHere
 dots-found s (inl k) = component-found s (46 ∷ []) (λ after h. dots-end after (ends-found after h)) k
 dots-found s (inr k) = component-found s (46 ∷ 46 ∷ []) (λ after h. ends-found after h) k
 
-pub good-path : (s : List ℕ) → length s ≤ pathLimit → (HoldsZero s → ⊥) → badHere s ≡ false → badLater s ≡ false → BadPath s → ⊥
+-- byte 0 is a control byte
+zero-control : (s : List ℕ) → HoldsZero s → HoldsControl s
+zero-control s z = (0, z, inl (omega arith))
+
+pub good-path : (s : List ℕ) → length s ≤ pathLimit → (HoldsControl s → ⊥) → badHere s ≡ false → badLater s ≡ false → BadPath s → ⊥
 unfolding BadPath badHere
-good-path s l z h k b =
+good-path s l c h k b =
     ⊎-elim (λ e. false≢true (sym h ∙ rw e refl))
-    (λ b. ⊎-elim (λ o. absurd (omega arith)) (λ b. ⊎-elim z (λ b. seen (⊎-elim (slash-found s) (dots-found s) b)) b) b)
+    (λ b. ⊎-elim (λ o. absurd (omega arith)) (λ b. ⊎-elim (λ z. c (zero-control s z)) (λ b. ⊎-elim (λ m. seen (slash-found s m)) (λ b. ⊎-elim (λ d. seen (dots-found s d)) c b) b) b) b)
     b
   where
     seen : Seen s → ⊥

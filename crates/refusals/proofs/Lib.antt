@@ -4,7 +4,7 @@ pub mod Says
 pub mod ScanLaws
 pub mod LowestLaws
 -- Laws that only this crate's proofs use.
-pub mod ZeroLaws
+pub mod ByteInLaws
 pub mod ComponentLaws
 pub mod ListLaws
 pub mod LongLaws

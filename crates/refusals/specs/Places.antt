@@ -1,9 +1,13 @@
--- Where the scan for byte 0 finds it: only a private function's contract cites this.
+-- Where a scan finds a byte that it looks for: only private functions' contracts cite this.
 use Prim.Native.Nat.{ℕ, _<_, _≤_}
 use mathlib.Core.Path.{_≡_}
 use mathlib.Core.List.{List}
 use lib.ListN.{getD}
 
--- byte 0 stands from place i on and before place n
-unfoldable pub ZeroIn : List ℕ → ℕ → ℕ → Type 0
-ZeroIn bytes i n = (k : ℕ) × (i ≤ k) × (k < n) × (getD bytes k 0 ≡ 0)
+-- a byte of which P holds stands from place i on and before place n
+unfoldable pub ByteIn : (ℕ → Type 0) → List ℕ → ℕ → ℕ → Type 0
+ByteIn P bytes i n = (k : ℕ) × (i ≤ k) × (k < n) × P (getD bytes k 0)
+
+-- byte 0
+abbrev pub Zero : ℕ → Type 0
+Zero b = b ≡ 0

@@ -1,4 +1,5 @@
 -- Document 01, "When a question is turned away": the conditions of refusals 1 to 6, each in the table's words, and which of them each question has.
+-- Document 02 adds one to refusal 1 (R-8).
 use Prim.Native.Nat.{ℕ, suc, _-_, _<_}
 use mathlib.Core.Path.{_≡_}
 use mathlib.Core.Logic.{_⊎_}
@@ -39,9 +40,24 @@ pub record Component (path bytes : List ℕ) : Type 0 where
 abbrev pub DotComponent : List ℕ → Type 0
 DotComponent path = Component path (46 ∷ []) ⊎ Component path (46 ∷ 46 ∷ [])
 
--- 1: "path empty, over 4,096 bytes, holding byte 0, with `/` first, last or doubled, or with a component `.` or `..`"
+-- 02, R-8: a byte "below 32" or "byte 127"
+abbrev pub ControlByte : ℕ → Type 0
+ControlByte b = (b < 32) ⊎ (b ≡ 127)
+
+-- "any path byte below 32 and byte 127": one of the path's bytes is such a byte
+abbrev pub HoldsControl : List ℕ → Type 0
+HoldsControl path = (b : ℕ) × List·Memᴰ b path × ControlByte b
+
+-- 1: "path empty, over 4,096 bytes, holding byte 0, with `/` first, last or doubled, or with a component `.` or `..`";
+-- 02, R-8: it "now also covers any path byte below 32 and byte 127"
 unfoldable pub BadPath : List ℕ → Type 0
-BadPath path = (path ≡ []) ⊎ ((pathLimit < length path) ⊎ (HoldsZero path ⊎ (SlashMisplaced path ⊎ DotComponent path)))
+BadPath path =
+    (path ≡ [])
+    ⊎ ((pathLimit < length path)
+    ⊎ (HoldsZero path
+    ⊎ (SlashMisplaced path
+    ⊎ (DotComponent path
+    ⊎ HoldsControl path))))
 
 -- Refusal 2.
 

@@ -5,7 +5,7 @@ ghost use mathlib.Core.Bool.{true};
 ghost use Prim.Native.Nat.{_+_, _≤_};
 ghost use lib.ListN.{length};
 ghost use Rattle.refusals.specs.Refusals.{TooLong, HoldsZero};
-ghost use Rattle.refusals.specs.Places.{ZeroIn};
+ghost use Rattle.refusals.specs.Places.{ByteIn, Zero};
 
 pub mod flags;
 pub mod lists;
@@ -45,7 +45,7 @@ pub fn too_long(pattern: &[u8], text: &[u8]) -> bool
 // Whether byte 0 is among the n bytes from place i. The loop runs to its end, so that the compiler can take several bytes at a time.
 fn zero_in(bytes: &[u8], i: usize, n: usize) -> bool
     requires { ⌜ i + n ≤ length (now bytes) ⌝ }
-    ensures { λ r. ⌜ (r ≡ true) ↔ ZeroIn (now (bytes .entry)) i (i + n) ⌝ }
+    ensures { λ r. ⌜ (r ≡ true) ↔ ByteIn Zero (now (bytes .entry)) i (i + n) ⌝ }
 {
     let mut found = false;
     let mut j = 0;

@@ -23,12 +23,12 @@ returns : tie.Need-returns Inv-loop μ-loop
 unfolding BadPath
 returns c = says (inr (inl (c .if1 .taken)))
 
-holds-zero-requires : tie.Need-holds-zero-requires Inv-loop μ-loop
-holds-zero-requires c κs = search needs
+holds-control-requires : tie.Need-holds-control-requires Inv-loop μ-loop
+holds-control-requires c κs = search needs
 
 returns-2 : tie.Need-returns-2 Inv-loop μ-loop
 unfolding BadPath
-returns-2 c = says (inr (inr (inl (c .before .holds-zero .ensures .0 (c .if2 .taken)))))
+returns-2 c = says (inr (inr (inr (inr (inr (c .before .holds-control .ensures .0 (c .if2 .taken)))))))
 
 bad-here-requires : tie.Need-bad-here-requires Inv-loop μ-loop
 bad-here-requires c κs = search needs
@@ -61,7 +61,7 @@ loop-again : tie.Need-loop-again Inv-loop μ-loop
 loop-again c = c .before .before .before .loop .inv ∙ ⊎-elim (λ w. later-fine _ _ (c .before .before .loop-test .taken) (w .0 .taken) (sym (w .1 .ensures) ∙ w .2 .left)) (λ w. later-plain _ _ (c .before .before .loop-test .taken) (w .left)) (c .if4 .came)
 
 returns-5 : tie.Need-returns-5 Inv-loop μ-loop
-returns-5 c = denies (good-path _ (c .before .before .before .before .before .before .if1 .left) (said-false (c .before .before .before .before .before .holds-zero .ensures) (c .before .before .before .before .if2 .left)) (sym (c .before .before .before .bad-here .ensures) ∙ c .before .before .if3 .left) (c .before .loop .inv ∙ later-past _ _ (c .loop-test .left)))
+returns-5 c = denies (good-path _ (c .before .before .before .before .before .before .if1 .left) (said-false (c .before .before .before .before .before .holds-control .ensures) (c .before .before .before .before .if2 .left)) (sym (c .before .before .before .bad-here .ensures) ∙ c .before .before .if3 .left) (c .before .loop .inv ∙ later-past _ _ (c .loop-test .left)))
 
 pub path-bad-spec : {M : Type 1} → statement M
 path-bad-spec =
@@ -70,7 +70,7 @@ path-bad-spec =
     Inv-loop
     μ-loop
     returns
-    holds-zero-requires
+    holds-control-requires
     returns-2
     bad-here-requires
     returns-3
