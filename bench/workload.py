@@ -17,6 +17,7 @@ LINES = (10, 30, 100, 300, 1000, 3000)
 COMPONENTS = (1, 2, 4, 8, 16, 32, 64)
 STARS = (1, 2, 3, 4, 5, 6, 8, 16, 32, 64)
 CROSSINGS = (1, 2, 4, 8, 16, 29)
+PATH_SIZES = (12, 20, 40, 64, 100, 1000, 4096)
 
 IGNORE = ["*.tmp", "/scratch/", "cal/", "!site07/cal/", "doc/**/*.pdf", "*.log", "!audit.log", "**/h0[0-3]/dark_*",
           "# loggers", "*.nc.part", "*~", "*.sw[op]", "/site39/", "thumbs/*.png", "!thumbs/day.png", "**/quicklook",
@@ -168,6 +169,20 @@ def tables():
             Table("open", "ignore", open_ended, patience=60, ms=60),
             Table("attribute", "attribute", attribute, patience=60, ms=60),
             Table("components", "ignore", components, patience=60)]
+
+
+def long_path(size):
+    """A path of so many bytes, at least 12."""
+    front = (b"site07/2026/03/14/h12/" * (size // 22 + 1))[:size - 7]
+    return (front[:-1] + b"x" if front.endswith(b"/") else front) + b"/irr.nc"
+
+
+def sizes():
+    """Both questions over 10 lines, by the path's bytes."""
+    about = {size: [(long_path(size), 0)] for size in PATH_SIZES}
+    ignore, attribute = lines(IGNORE, MORE_IGNORE, 10, SEED), lines(ATTRIBUTES, MORE_ATTRIBUTES, 10, SEED)
+    return [Table("ignore, path", "ignore", {size: asked(ignore, about[size]) for size in PATH_SIZES}),
+            Table("attribute, path", "attribute", {size: asked(attribute, about[size]) for size in PATH_SIZES})]
 
 
 def write(table, column, file):
