@@ -1,4 +1,5 @@
 //! Random bytes and numbers in every place.
+use super::paths::CONTROL;
 use crate::asking::check::Check;
 use crate::asking::Asks;
 use crate::random::Random;
@@ -47,18 +48,21 @@ fn bytes(random: &mut Random, most: usize, dense: &[u8]) -> Vec<u8> {
     (0..length).map(|_| if all { random.from(1, 255) as u8 } else { *random.pick(dense) }).collect()
 }
 
-/// Mostly with good components.
+/// Mostly with good components, and then with a control byte rarely.
 fn path(random: &mut Random, most: usize) -> Vec<u8> {
     let mut path = bytes(random, most + 2, b"aab//.[]*\\ !#\xef\xbb\xbf");
     if random.chance(95) {
         path.dedup_by(|x, y| *x == b'/' && *y == b'/');
-        path.iter_mut().for_each(|x| *x = if *x == b'.' { b'b' } else { *x });
+        path.iter_mut().for_each(|x| *x = if *x == b'.' || x.is_ascii_control() { b'b' } else { *x });
         while path.first() == Some(&b'/') {
             path.remove(0);
         }
         while path.last() == Some(&b'/') {
             path.pop();
         }
+    }
+    if random.chance(1) && !path.is_empty() {
+        *random.pick_mut(&mut path) = *random.pick(CONTROL);
     }
     path
 }

@@ -1,6 +1,6 @@
 //! Random questions: a path, the rule files lent for it, and now and then a
 //! fault in what is lent.
-use super::paths::{components, Words};
+use super::paths::{components, Words, CONTROL};
 use super::{attributes, lines};
 use crate::random::Random;
 use crate::reader::Question;
@@ -85,7 +85,7 @@ fn fault(random: &mut Random, extent: Extent, question: &mut Question) {
     let number = odd_number(random, question.path.len().max(question.rules.len()));
     match random.below(if extent == Extent::One { 4 } else { 9 }) {
         0 => question.flags = random.number() >> random.below(64),
-        1 => question.path = random.word(&[&b""[..], b".", b"a/..", b"/a", b"a/", b"a//b", b"a\0b"]).to_vec(),
+        1 => spoil(random, &mut question.path),
         2 if !question.rules.is_empty() => *random.pick_mut(&mut question.rules) = 0,
         3 if question.name.is_some() => question.name = Some(vec![random.number() as u8; random.below(300)]),
         4 => question.ends.push(number),
@@ -94,6 +94,16 @@ fn fault(random: &mut Random, extent: Extent, question: &mut Question) {
         7 if !question.ends.is_empty() => *random.pick_mut(&mut question.ends) = number,
         8 if !question.bases.is_empty() => *random.pick_mut(&mut question.bases) = number,
         _ => {}
+    }
+}
+
+/// A path that refusal 1 turns away: one of some, or this one with a control
+/// byte anywhere.
+fn spoil(random: &mut Random, path: &mut Vec<u8>) {
+    if path.is_empty() || random.chance(60) {
+        *path = random.word(&[&b""[..], b".", b"a/..", b"/a", b"a/", b"a//b", b"a\0b"]).to_vec();
+    } else {
+        *random.pick_mut(path) = *random.pick(CONTROL);
     }
 }
 

@@ -2,7 +2,8 @@
 use crate::random::Random;
 
 /// Components: plain ones mostly, so that lines and paths meet often; then
-/// those that a line must escape, or that nearly are something else.
+/// those that a line must escape, or that nearly are something else. One has a
+/// control byte, for which its path is refused; more would refuse too many.
 const COMMON: [&str; 8] = ["a", "b", "ab", "ba", "a.b", "A", "aB", "abc"];
 const ODD: [&[u8]; 26] = [
     b"...",
@@ -11,8 +12,8 @@ const ODD: [&[u8]; 26] = [
     b"a ",
     b" a",
     b" ",
-    b"\t",
-    b"a\t",
+    b"~",
+    b"a\x80",
     b"#a",
     b" #a",
     b"!a",
@@ -29,9 +30,11 @@ const ODD: [&[u8]; 26] = [
     b"\xef\xbb\xbfa",
     b"\xef\xbb\xbf",
     b"\xc3\xa9",
-    b"a\nb",
+    b"a b",
     b"-",
 ];
+/// Bytes that a line may hold and no path.
+pub const CONTROL: &[u8] = b"\x01\t\n\x0b\r\x1f\x7f";
 
 pub type Words = Vec<Vec<u8>>;
 
@@ -105,7 +108,22 @@ fn component_pattern(random: &mut Random, word: &[u8]) -> Vec<u8> {
         18 => [&[*first], &b"***"[..]].concat(),
         19 => word.to_ascii_uppercase(),
         20 => word.to_ascii_lowercase(),
+        21 if random.chance(50) => with_control(random, word),
         _ => random.pick(&COMMON).as_bytes().to_vec(),
+    }
+}
+
+/// The component with a control byte behind it, also escaped, or within, which
+/// takes no path unless a line's end or a blank drops that byte; and one that
+/// takes the component, the control byte in a class.
+fn with_control(random: &mut Random, word: &[u8]) -> Vec<u8> {
+    let x = *random.pick(CONTROL);
+    let (first, rest) = word.split_first().expect("a component has bytes");
+    match random.below(4) {
+        0 => [word, &[x]].concat(),
+        1 => [word, &[b'\\', x]].concat(),
+        2 => [word, &[x], word].concat(),
+        _ => [&[b'[', x, *first, b']'], rest].concat(),
     }
 }
 

@@ -18,9 +18,11 @@ pub fn run<A: Asks>(check: &mut Check<A>, most: usize) {
     words(ATTRIBUTE, 0, most - 1, |rules| cut(check, rules, Some(b"a")));
 }
 
-/// Paths that short lines can match.
+/// Paths that short lines can match. The last is refused, whatever the lines
+/// (02, R-8): a CR that a line keeps can match no path, and shows by what the
+/// line no longer matches.
 fn ignore<A: Asks>(check: &mut Check<A>, rules: &[u8]) {
-    for path in [&b"a"[..], b"a/a", b"a ", b"!", b"#", b"\\", b"a\r"] {
+    for path in [&b"a"[..], b"a/a", b"a ", b"!", b"#", b"\\", b" a", b"aa", b"a\r"] {
         for flags in 0..2 {
             check.case(&Question::one_file(rules, path, None, flags));
         }

@@ -1,5 +1,6 @@
 //! "When a question is turned away": the table's conditions, one function
-//! each, and "Where several hold, the lowest is answered."
+//! each, and "Where several hold, the lowest is answered." Document 02 adds to
+//! the first.
 use super::{files, Question};
 
 const MOST_PATH: usize = 4096;
@@ -22,11 +23,13 @@ pub fn lowest(question: &Question) -> Option<u32> {
 
 /// "path empty, over 4,096 bytes, holding byte 0, with `/` first, last or
 /// doubled, or with a component `.` or `..`". Between slashes that stand
-/// first, last or doubled there is an empty component.
+/// first, last or doubled there is an empty component. Document 02, R-8:
+/// "Refusal 1 now also covers any path byte below 32 and byte 127."
 fn path(question: &Question) -> bool {
     let path = &question.path;
+    let control = |x: &u8| *x < 32 || *x == 127; // byte 0 is one of them
     let bad = |component: &[u8]| [&b""[..], b".", b".."].contains(&component);
-    path.len() > MOST_PATH || path.contains(&0) || path.split(|&x| x == b'/').any(bad)
+    path.len() > MOST_PATH || path.iter().any(control) || path.split(|&x| x == b'/').any(bad)
 }
 
 /// "the two lists differ in length; over 64 files; an end below the one
