@@ -12,6 +12,8 @@ pub fn run(check: &mut Check) {
         lengths(check, fill);
     }
     zero_bytes(check);
+    every_byte(check);
+    control_bytes(check);
     words(check);
     far_over(check);
     for flags in FLAGS {
@@ -68,11 +70,43 @@ fn places(length: usize) -> Vec<Option<usize>> {
 }
 
 fn zeroed(length: usize, place: Option<usize>) -> Vec<u8> {
+    holding(length, place, 0)
+}
+
+fn holding(length: usize, place: Option<usize>, x: u8) -> Vec<u8> {
     let mut bytes = vec![b'a'; length];
     if let Some(place) = place {
-        bytes[place] = 0;
+        bytes[place] = x;
     }
     bytes
+}
+
+/// Refusal 8 is byte 0 alone: every other byte is taken in the text and in the
+/// pattern, control bytes too. The text is no path.
+fn every_byte(check: &mut Check) {
+    for x in 0..=255 {
+        for flags in 0..4 {
+            check.case(b"?", &[x], flags);
+            check.case(b"*", &[b'a', x, b'b'], flags);
+            check.case(b"[[:space:]]", &[x], flags);
+            check.case(b"[![:cntrl:]]", &[x], flags);
+            check.case(&[b'a', x], &[b'a', x], flags);
+            check.case(&[b'[', x, b'a', b']'], b"a", flags);
+        }
+    }
+}
+
+/// A control byte at each place of a text and of a pattern: not refused.
+fn control_bytes(check: &mut Check) {
+    for x in [1, 10, 31, 127] {
+        for length in (1..=70).chain([2048]) {
+            for place in (0..length).step_by(1 + length / 100) {
+                let bytes = holding(length, Some(place), x);
+                check.case(b"*", &bytes, 1);
+                check.case(&bytes, &bytes, 1);
+            }
+        }
+    }
 }
 
 /// Refusal 7 far over the limits, byte 0 and flags bad as well.

@@ -71,10 +71,9 @@ fn flags<A: Asks>(check: &mut Check<A>) {
     }
 }
 
-/// One change for each refusal that makes it hold and touches no other; then
-/// every set of them: the lowest is answered.
-const CHANGES: [fn(&mut Question); 7] = [
-    |question| question.path = b"a/../b".to_vec(),
+/// One change for each refusal but the first that makes it hold and touches no
+/// other.
+const CHANGES: [fn(&mut Question); 6] = [
     |question| question.bases.push(2),
     |question| question.lengthen(&b"#\n".repeat(32_768)),
     |question| question.lengthen(b"\0\n"),
@@ -83,18 +82,29 @@ const CHANGES: [fn(&mut Question); 7] = [
     |question| question.flags = 7,
 ];
 
+/// A good path, and those that refusal 1 turns away: for a component, and for
+/// a control byte first, in a parent, and last.
+const PATHS: [&[u8]; 5] = [b"a/cc/b", b"a/../b", b"\x1f/cc/b", b"a/c\n/b", b"a/cc/b\x7f"];
+
+/// Every set of refusals: the lowest is answered.
 fn several<A: Asks>(check: &mut Check<A>) {
-    for set in 0..1 << CHANGES.len() {
-        for name in [None, Some(b"fill".to_vec())] {
-            let mut question = Question { name, ..one_file(b"b fill\n", b"a/cc/b") };
-            for (bit, change) in CHANGES.iter().enumerate() {
-                if set >> bit & 1 == 1 {
-                    change(&mut question);
-                }
+    for path in PATHS {
+        for set in 0..1 << CHANGES.len() {
+            for name in [None, Some(b"fill".to_vec())] {
+                check.case(&changed(set, Question { name, ..one_file(b"b fill\n", path) }));
             }
-            check.case(&question);
         }
     }
+}
+
+/// The question with the changes of this set, a bit each.
+fn changed(set: u32, mut question: Question) -> Question {
+    for (bit, change) in CHANGES.iter().enumerate() {
+        if set >> bit & 1 == 1 {
+            change(&mut question);
+        }
+    }
+    question
 }
 
 impl Question {

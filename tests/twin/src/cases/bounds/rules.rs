@@ -8,6 +8,7 @@ use crate::reader::Question;
 pub fn run<A: Asks>(check: &mut Check<A>) {
     rule_bytes(check);
     zero_bytes(check);
+    other_bytes(check);
     lines(check);
     boms(check);
 }
@@ -38,6 +39,29 @@ fn zero_bytes<A: Asks>(check: &mut Check<A>) {
         both(check, &one_file(&holding(&long, place, 0), b"a"));
         let ends = vec![place, long.len()];
         both(check, &Question { ends, bases: vec![0; 2], ..one_file(&holding(&long, place, 0), b"a") });
+    }
+}
+
+/// 4 is byte 0 alone: rules may hold every other byte, as no path may, in a
+/// pattern, a class, a comment, between attributes and in a value.
+fn other_bytes<A: Asks>(check: &mut Check<A>) {
+    let around = [
+        ("a", "\n*"),
+        ("", "\n*\n* fill\n"),
+        ("b", " fill\nb fill\n"),
+        ("#", "\n*\n* fill\n"),
+        ("[", "b]\n[b] fill\n"),
+        ("[b", "] fill\n"),
+        ("[!", "]\n[!a] fill\n"),
+        ("[^", "] fill\n"),
+        ("*", "fill\n"),
+        ("* fill=", "v\n"),
+        ("* fill=v", "\n"),
+    ];
+    for x in 1..=255 {
+        for (front, back) in around {
+            both(check, &one_file(&[front.as_bytes(), &[x], back.as_bytes()].concat(), b"b"));
+        }
     }
 }
 
