@@ -178,6 +178,19 @@ static void matcher_refusals(void)
     match(str("a"), BYTES("\0a"), UINT64_MAX, FIDSHORE_REFUSED + 8);
 }
 
+/* A text is no path: it and the pattern may hold every byte but 0. */
+static void matcher_bytes(void)
+{
+    match(str("*"), str("a\nb"), FIDSHORE_PATH_MODE, FIDSHORE_MATCH);
+    match(str("a\r*"), str("a\r\n"), 0, FIDSHORE_MATCH);
+    match(str("[[:space:]]"), str("\v"), 0, FIDSHORE_MATCH);
+    for (int x = 1; x < 256; x++) {
+        char text[] = { (char)x }, pattern[] = { '\\', (char)x };
+        match(str("?"), (struct bytes){ text, 1 }, 0, FIDSHORE_MATCH);
+        match((struct bytes){ pattern, 2 }, (struct bytes){ text, 1 }, 0, FIDSHORE_MATCH);
+    }
+}
+
 /* The examples in the header's comments, as they stand there. */
 static void header_examples(void)
 {
@@ -201,22 +214,69 @@ static void header_examples(void)
     }
 }
 
-/* Refusal 1 of both questions. */
+/* Both questions about a path of which lines speak, unless it is refused. */
+static void path_is(int good, struct bytes path)
+{
+    ignore(str("*\n"), path, 0, good ? FIDSHORE_IGNORED : FIDSHORE_REFUSED + 1);
+    attribute(str("* fill\n"), path, str("fill"), 0, good ? FIDSHORE_SET : FIDSHORE_REFUSED + 1);
+}
+
+/* Refusal 1 of both questions. The last of the bad ones is a line of a listing with CRLF ends. */
 static void paths(void)
 {
-    static const char *const bad[] = { "/", "/a", "a/", "a//b", "//", ".", "..", "./a", "../a", "a/.", "a/..", "a/./b", "a/../b" };
-    static const char *const good[] = { "a", "...", "a/...", ".a", "..a/b", "a./b.." };
-    for (size_t i = 0; i < sizeof bad / sizeof *bad; i++) both(str("*\n"), str(bad[i]), 0, FIDSHORE_REFUSED + 1);
-    for (size_t i = 0; i < sizeof good / sizeof *good; i++) ignore(str("*\n"), str(good[i]), 0, FIDSHORE_IGNORED);
-    for (size_t i = 0; i < sizeof good / sizeof *good; i++) attribute(str("* fill\n"), str(good[i]), str("fill"), 0, FIDSHORE_SET);
+    static const char *const bad[] = {
+        "/", "/a", "a/", "a//b", "//", ".", "..", "./a", "../a", "a/.", "a/..", "a/./b", "a/../b",
+        "\n", "\r", "\x1f", "\x7f", "a\nb", "a\tb/c", "a/\x01", "a/b\x7f", "h17.nc\r",
+    };
+    static const char *const good[] = {
+        "a", "...", "a/...", ".a", "..a/b", "a./b..", " ", "a b", "~", "a~/b", "\x80", "a\x80/b", "a/\xff", "\xc3\xa9", "h17.nc",
+    };
+    for (size_t i = 0; i < sizeof bad / sizeof *bad; i++) path_is(0, str(bad[i]));
+    for (size_t i = 0; i < sizeof good / sizeof *good; i++) path_is(1, str(good[i]));
     both(str("*\n"), none, 0, FIDSHORE_REFUSED + 1);
     both(str("*\n"), str(""), 0, FIDSHORE_REFUSED + 1);
     both(none, none, 0, FIDSHORE_REFUSED + 1);
+    both(none, str("a\r"), 0, FIDSHORE_REFUSED + 1);
     both(str("*\n"), BYTES("\0"), 0, FIDSHORE_REFUSED + 1);
     both(str("*\n"), BYTES("a\0"), 0, FIDSHORE_REFUSED + 1);
     both(none, fill(FIDSHORE_PATH_LIMIT), 0, FIDSHORE_NOTHING_SAID);
     both(none, fill(FIDSHORE_PATH_LIMIT + 1), 0, FIDSHORE_REFUSED + 1);
     both(none, fill(sizeof filled), 0, FIDSHORE_REFUSED + 1);
+}
+
+/* Every byte but `/` as the first, a middle and the last of a path, and in a
+ * parent. It is refused below 32 and at 127, and nowhere above. */
+static void path_bytes(void)
+{
+    for (int x = 0; x < 256; x++) {
+        char first[] = { (char)x, 'a' }, middle[] = { 'a', (char)x, 'b' }, last[] = { 'a', (char)x }, parent[] = { 'a', (char)x, '/', 'b' };
+        int good = x >= 32 && x != 127;
+        if (x == '/') continue;
+        path_is(good, (struct bytes){ first, sizeof first });
+        path_is(good, (struct bytes){ middle, sizeof middle });
+        path_is(good, (struct bytes){ last, sizeof last });
+        path_is(good, (struct bytes){ parent, sizeof parent });
+    }
+}
+
+/* A byte on each side, as the first, the middle and the last of a path so long. */
+static void path_places(size_t len)
+{
+    static const int bytes[] = { 1, 11, 31, 127, 32, 126, 128, 255 };
+    for (size_t i = 0; i < 3 * sizeof bytes / sizeof *bytes; i++) {
+        size_t place = i % 3 * (len - 1) / 2;
+        struct bytes path = fill(len);
+        filled[place] = (char)bytes[i / 3];
+        path_is(i / 3 >= 4, path);
+    }
+}
+
+/* Lengths beside those at which a scan may be cut into parts. */
+static void path_lengths(void)
+{
+    static const size_t others[] = { 100, 127, 128, 129, FIDSHORE_PATH_LIMIT - 1, FIDSHORE_PATH_LIMIT };
+    for (size_t len = 1; len <= 70; len++) path_places(len);
+    for (size_t i = 0; i < sizeof others / sizeof *others; i++) path_places(others[i]);
 }
 
 /* Refusals 3, 4 and 9 of both questions. */
@@ -234,6 +294,10 @@ static void rule_bytes(void)
     both(BYTES("a\0\n"), str("a"), 0, FIDSHORE_REFUSED + 4);
     both(BYTES("\0"), str("a"), 0, FIDSHORE_REFUSED + 4);
     both(BYTES("#\n#\0"), str("a"), 0, FIDSHORE_REFUSED + 4);
+    /* Byte 0 alone: patterns and values may hold what no path may. */
+    ignore(str("a\x01\n*"), str("b"), 0, FIDSHORE_IGNORED);
+    ignore(str("[\x1f" "b\x7f]\n"), str("b"), 0, FIDSHORE_IGNORED);
+    attribute(str("a\x01 -fill\n* fill=\x1f\x7f\n"), str("b"), str("fill"), 0, FIDSHORE_VALUE);
     both(rules, str("b"), 3, FIDSHORE_NOTHING_SAID);
     both(rules, str("b"), 4, FIDSHORE_REFUSED + 9);
     both(rules, str("b"), UINT64_C(1) << 32, FIDSHORE_REFUSED + 9);
@@ -294,6 +358,9 @@ static void several(void)
     filled[0] = 0;
     both(over, path, 4, FIDSHORE_REFUSED + 1);
     attribute(over, path, name, 4, FIDSHORE_REFUSED + 1);
+    path = str("a\x02");
+    both(over, path, 4, FIDSHORE_REFUSED + 1);
+    attribute(over, path, name, 4, FIDSHORE_REFUSED + 1);
     path = str("a");
     both(over, path, 4, FIDSHORE_REFUSED + 3);
     attribute(over, path, name, 4, FIDSHORE_REFUSED + 3);
@@ -341,8 +408,11 @@ int main(int count, char **words)
     table(words[3], question_row);
     matcher();
     matcher_refusals();
+    matcher_bytes();
     header_examples();
     paths();
+    path_bytes();
+    path_lengths();
     rule_bytes();
     lines();
     names();

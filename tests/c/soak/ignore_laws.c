@@ -100,6 +100,7 @@ struct law ignore_laws[] = {
     { "a BOM before", with_bom, 0 },
     { "a CR at each line's end", with_crs, 0 },
     { "the path in another case, folding", other_case, 0 },
+    { "a control byte in the path", with_control, 0 },
     { "no `/` in the rules: the directory flag says nothing", no_slash_no_directory, 0 },
     { "a last line that says nothing", silent_last, 0 },
     { "a last line `*`", ignoring_last, 0 },

@@ -130,6 +130,16 @@ int other_case(const struct question *q, uint32_t code)
     return letters && gives(code);
 }
 
+/* With a control byte anywhere in it no path is taken, whatever the rules say (02, R-8). */
+int with_control(const struct question *q, uint32_t code)
+{
+    static const uint8_t controls[] = { 0, 1, '\t', '\n', '\r', 31, 127 };
+    (void)code;
+    copy_question(&changed, q);
+    changed.second.at[below(q->second.len)] = PICK(controls);
+    return gives(17);
+}
+
 /* Only a `/` in the rules can make a line one of directories. */
 int no_slash_no_directory(const struct question *q, uint32_t code)
 {

@@ -8,10 +8,11 @@
 #include <string.h>
 
 static const char *const words[] = {
-    "a", "b", "A", "ab", "aB", "cal", "h07.nc", "...", ".a", "x y", "[", "*", "\\", "\xef\xbb\xbf", "#a", "!a", "-", "a]", "\xc3\xa9", "z\r",
+    "a", "b", "A", "ab", "aB", "cal", "h07.nc", "...", ".a", "x y", "[", "*", "\\", "\xef\xbb\xbf", "#a", "!a", "-", "a]", "\xc3\xa9", "z~",
 };
 static const char *const names[] = { "fill", "a", "Fill", "a.b_c-9", "_", ".", "..", "9", "fill-x", "text" };
-static const char *const faults[] = { "", "/", ".", "..", "/..", "./", "//", "/.", "\n" };
+static const char *const faults[] = { "", "/", ".", "..", "/..", "./", "//", "/.", "\n", "z\r", "\x7f" };
+static const uint8_t controls[] = { 1, '\t', '\n', 11, '\r', 31, 127 };
 
 /* Any bytes, at times byte 0 too, or those that mean something to the readers. */
 static void add_noise(struct buffer *b, size_t most)
@@ -35,8 +36,11 @@ static uint64_t make_flags(void)
     return chance(96) ? below(4) : PICK(over);
 }
 
+/* A byte for which the text or path is refused: a text may hold every control byte but 0. */
+static uint8_t refused_byte(enum call call) { return call == MATCH || chance(30) ? 0 : PICK(controls); }
+
 /* Components, and in some paths a fault. */
-static void make_path(struct buffer *path)
+static void make_path(struct buffer *path, enum call call)
 {
     size_t components = 1 + below(chance(90) ? 4 : 60);
     for (size_t i = 0; i < components; i++) {
@@ -45,13 +49,22 @@ static void make_path(struct buffer *path)
     }
     if (chance(4)) add_text(path, PICK(faults));
     if (chance(2)) put_before(path, "/", 1);
-    if (chance(2)) path->at[below(path->len)] = 0;
+    if (chance(2)) path->at[below(path->len)] = refused_byte(call);
 }
 
-/* Bytes of the path, some of them made wildcards. */
+/* Noise, in which control bytes mostly give way to a letter, or few would be accepted. */
+static void make_noise_path(struct buffer *path)
+{
+    int keep = chance(10);
+    add_noise(path, 12);
+    for (size_t i = 0; i < path->len && !keep; i++)
+        if (path->at[i] < 32 || path->at[i] == 127) path->at[i] = 'b';
+}
+
+/* Bytes of the path, some of them made wildcards; classes may hold control bytes, though no path does. */
 static void add_likeness(struct buffer *line, const uint8_t *at, size_t len)
 {
-    static const char *const wild[] = { "?", "*", "**", "[!x]", "[^/]", "[[:print:]]", "***" };
+    static const char *const wild[] = { "?", "*", "**", "[!x]", "[^/]", "[[:print:]]", "***", "[!\x01\x7f]", "[\x01-\xff]" };
     for (size_t i = 0; i < len; i++) {
         if (at[i] == '\n' || at[i] == 0 || chance(12))
             add_text(line, PICK(wild));
@@ -94,6 +107,7 @@ static void add_mentions(struct buffer *line, const struct buffer *name)
 static void add_line(struct buffer *rules, const struct question *q)
 {
     static const char *const others[] = { "", "#", "# a fill", " ", "*", "!*", "/", "!", "**", "\\#a", "[attr]a fill", "!a fill", "\"a\" fill" };
+    static const char *const odd_ends[] = { "\r\r\n", "\\\r\n", "\x7f\n" };
     if (chance(12)) {
         add_noise(rules, 12);
     } else if (chance(15)) {
@@ -103,7 +117,7 @@ static void add_line(struct buffer *rules, const struct question *q)
         add_pattern(rules, &q->second);
         if (q->call == ATTRIBUTE) add_mentions(rules, &q->name);
     }
-    add_text(rules, chance(85) ? "\n" : "\r\n");
+    add_text(rules, chance(85) ? "\n" : chance(80) ? "\r\n" : PICK(odd_ends));
 }
 
 /* A line of 2,047 to 2,049 bytes, BOM and CR among them. */
@@ -157,7 +171,8 @@ static void make_name(struct buffer *name)
 static void make_match(struct question *q)
 {
     size_t kind = below(10);
-    make_path(&q->second);
+    make_path(&q->second, MATCH);
+    if (chance(8)) q->second.at[below(q->second.len)] = PICK(controls);
     if (kind < 4)
         add_likeness(&q->first, q->second.at, q->second.len);
     else if (kind < 8)
@@ -168,7 +183,7 @@ static void make_match(struct question *q)
 }
 
 /* Each argument by itself nothing, a byte, or around its limit; of plain
- * letters, so that lengths decide, and at times with a byte 0 somewhere. */
+ * letters, so that lengths decide, and at times with a byte that is refused. */
 static void make_edges(struct question *q)
 {
     size_t first = edge(q->call == MATCH ? 2048 : 65536), line = 2047 + below(3);
@@ -178,7 +193,7 @@ static void make_edges(struct question *q)
     add_times(&q->second, "a", edge(4096));
     if (q->call == ATTRIBUTE) add_times(&q->name, "n", edge(255));
     if (chance(10) && q->first.len > 0) q->first.at[below(2) * (q->first.len - 1)] = 0;
-    if (chance(10) && q->second.len > 0) q->second.at[below(2) * (q->second.len - 1)] = 0;
+    if (chance(10) && q->second.len > 0) q->second.at[below(2) * (q->second.len - 1)] = refused_byte(q->call);
 }
 
 /* A path, or text, of up to 2,048 components and few short lines. */
@@ -208,12 +223,12 @@ void make_question(struct question *q)
         make_deep(q);
     } else if (kind < 100) {
         add_noise(&q->first, 60);
-        add_noise(&q->second, 12);
+        if (q->call == MATCH) add_noise(&q->second, 12); else make_noise_path(&q->second);
         if (q->call == ATTRIBUTE) add_noise(&q->name, 4);
     } else if (q->call == MATCH) {
         make_match(q);
     } else {
-        make_path(&q->second);
+        make_path(&q->second, q->call);
         if (q->call == ATTRIBUTE) make_name(&q->name);
         if (kind < 120) make_large_rules(q); else make_rules(q);
     }

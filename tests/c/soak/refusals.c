@@ -1,11 +1,21 @@
-/* Document 01's table "When a question is turned away", read once more and as
- * plainly as can be. The limits are the paper's numbers and not the header's
- * names, so that a wrong name shows too. Refusal 2 is missing: it is about how
- * several files are lent, and each C call lends one. */
+/* Document 01's table "When a question is turned away", with what document 02
+ * adds to it, read once more and as plainly as can be. The limits are the
+ * papers' numbers and not the header's names, so that a wrong name shows too.
+ * Refusal 2 is missing: it is about how several files are lent, and each C call
+ * lends one. */
 #include "soak.h"
 #include <string.h>
 
 static int holds_zero(const struct buffer *b) { return memchr(b->at, 0, b->len) != NULL; }
+
+/* 02, R-8: "Refusal 1 now also covers any path byte below 32 and byte 127." Byte 0
+ * is one of them. The bytes have no sign, so that 128 and above are not below 32. */
+static int holds_control(const struct buffer *b)
+{
+    for (size_t i = 0; i < b->len; i++)
+        if (b->at[i] < 32 || b->at[i] == 127) return 1;
+    return 0;
+}
 
 /* A component is empty where a `/` is first, last or doubled. */
 static int bad_component(const uint8_t *at, size_t len)
@@ -15,7 +25,7 @@ static int bad_component(const uint8_t *at, size_t len)
 
 static int bad_path(const struct buffer *path)
 {
-    if (path->len == 0 || path->len > 4096 || holds_zero(path)) return 1;
+    if (path->len == 0 || path->len > 4096 || holds_control(path)) return 1;
     size_t start = 0;
     for (size_t i = 0; i <= path->len; i++) {
         if (i < path->len && path->at[i] != '/') continue;

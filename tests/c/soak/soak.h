@@ -72,6 +72,7 @@ int said_twice(const struct question *q, uint32_t code);
 int with_bom(const struct question *q, uint32_t code);
 int with_crs(const struct question *q, uint32_t code);
 int other_case(const struct question *q, uint32_t code);
+int with_control(const struct question *q, uint32_t code);
 int no_slash_no_directory(const struct question *q, uint32_t code);
 
 #endif
