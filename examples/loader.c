@@ -48,7 +48,7 @@
 static const char *const layers[] = { "fleet", "site" };
 
 static const char *const reasons[] = {
-    [1] = "the path is empty or too long, holds a control byte (as the CR of a CRLF line end), or has a misplaced `/` or a component `.` or `..`",
+    [1] = "the path is empty or too long, holds a byte below 32 or 127, as the CR of a CRLF line end, or has a misplaced `/` or a component `.` or `..`",
     [3] = "the rules have over 65,536 bytes",
     [4] = "byte 0 in the rules",
     [5] = "a line of the rules has over 2,048 bytes",
@@ -145,12 +145,18 @@ static void say_fill(struct bytes rules, const uint8_t *path, size_t len)
     }
 }
 
+/* Control bytes as `?`: a CR would let what follows overwrite the path. */
+static void show(const uint8_t *path, size_t len)
+{
+    for (size_t i = 0; i < len; i++) putchar(path[i] < 32 || path[i] == 127 ? '?' : path[i]);
+    printf("%*s", len < 28 ? (int)(28 - len) : 1, "");
+}
+
 static void judge(struct bytes ignores, struct bytes attributes, const uint8_t *path, size_t len)
 {
     uint32_t code = fidshore_ignore(ignores.at, ignores.len, path, len, 0);
     paths++;
-    fwrite(path, 1, len, stdout);
-    printf("%*s", len < 28 ? (int)(28 - len) : 1, "");
+    show(path, len);
     switch (code) {
     case FIDSHORE_IGNORED: kept_out++; printf("kept out"); break;
     case FIDSHORE_RE_INCLUDED: printf("loaded (re-included), "); say_fill(attributes, path, len); break;

@@ -81,7 +81,7 @@ fn put_directory(directory: &[u8], directories: &mut [u8], used: usize) -> usize
     if refusals::path::path_bad(bare) {
         words::about(
             directory,
-            b"no directory of the archive: give it from the archive's top, as `sky/north`",
+            b"no directory of the archive: give it from the archive's top, as `sky/north`, and without control bytes",
         );
         return usize::MAX;
     }

@@ -42,7 +42,7 @@ fn append_answers(out: &mut [u8], at: usize) -> usize {
     let b = append(
         out,
         a,
-        b"unset, value V, unspecified, nothing; or refused N: reason.\nA path, entry, value or file name that begins with a double quote is quoted as in C; so is a refused path, value or file name with a control byte.\n",
+        b"unset, value V, unspecified, nothing; or refused N: reason.\nA path, entry, value or file name that begins with a double quote is quoted as in C; so is a value, a file name or a refused path with a control byte.\n",
     );
     append(
         out,
