@@ -1,11 +1,15 @@
 """Random archives: rule files with the directories that they stand in, and a listing."""
+from program import CONTROLS
+
 NAMES = [b"cal", b"sky", b"skyline", b"north", b"h07.jpg", b"h17.nc", b"a.tmp", b"Cal", b"SKY", b"a b", b"\xc3\xa9"]
-ODD_NAMES = [b'"q', b"a\tb", b"a\r", b"\\", b"[a]", b"*", b"!a", b"#a", b"...", b"-a", b"\x7f", b"\xff", b" "]
+ODD_NAMES = [b'"q', b"~", b'""', b"\\", b"[a]", b"*", b"!a", b"#a", b"...", b"-a", b"\x80", b"\xff", b" "]
 CLASSES = [b"[a-z]", b"[!x]", b"[^a-c]", b"[[:alpha:]]", b"[0-9h]", b"[![:digit:]]", b"[]c]"]
 # Where document 01 and git differ, or a line says nothing: the twin alone judges these.
-ODD_PATTERNS = [b"***", b"cal/***", b"sk**/north", b"[", b"[[:x:]]", b"\\", b"\\Cal", b"[C]al", b"a\\ ", b"*.tmp \\", b"/", b"//", b"!", b"a//b", b"[[:space:]]", b"[sS-k]ky"]
-ODD_ATTRIBUTES = [b"[attr]macro fill", b'"cal" fill', b"!cal fill", b"* -", b"* fill =v", b"* fill -fill fill=last", b"* fill=a=b", b"\t * \t fill\r"]
-BAD_PATHS = [b"", b"/", b"//", b"/cal", b"cal//a", b"cal//", b".", b"./cal", b"cal/..", b"cal/../sky", b"a\0b", b"sky/./north/"]
+ODD_PATTERNS = [b"***", b"cal/***", b"sk**/north", b"[", b"[[:x:]]", b"\\", b"\\Cal", b"[C]al", b"a\\ ", b"*.tmp \\", b"/", b"//", b"!", b"a//b", b"[[:space:]]", b"[sS-k]ky",
+                b"cal\t", b"[\x01-\x1f]", b"[!\x01-\x7f]"]
+ODD_ATTRIBUTES = [b"[attr]macro fill", b'"cal" fill', b"!cal fill", b"* -", b"* fill =v", b"* fill -fill fill=last", b"* fill=a=b", b"\t * \t fill\r", b"* fill=\x01\x7f"]
+BAD_PATHS = [b"", b"/", b"//", b"/cal", b"cal//a", b"cal//", b".", b"./cal", b"cal/..", b"cal/../sky", b"a\0b", b"sky/./north/",
+             b"cal\r", b"cal/\r", b"\r", b"a\tb/a", b"\x7f"]
 BOM = b"\xef\xbb\xbf"
 
 
@@ -50,6 +54,12 @@ def path(rnd, names):
     return b"/".join(rnd.choice(names) for _ in range(rnd.randint(1, 4)))
 
 
+def with_control(rnd, text):
+    """The path, one byte of it a control byte; not the newline, which would end it."""
+    at = rnd.randrange(len(text))
+    return text[:at] + bytes([rnd.choice([byte for byte in CONTROLS if byte != ord("\n")])]) + text[at + 1:]
+
+
 class Archive:
     """What the program is asked in one call. `files` lists name, directory and bytes, lowest first."""
 
@@ -67,7 +77,7 @@ class Archive:
         self.last_newline = rnd.random() < .7 or self.listing[-1:] == [b""]
 
     def name(self, number):
-        return self.rnd.choice((b"r%d", b"r%d", b"rules %d", b'"%d', b"r\t%d", b"\xe9%d", b"-%d")) % number
+        return self.rnd.choice((b"r%d", b"r%d", b"rules %d", b'"%d', b"r\t%d", b"\xe9%d", b"-%d", b"\x7f\n\r%d")) % number
 
     def directory(self):
         return b"" if self.rnd.random() < .4 else b"/".join(self.rnd.choice(self.names) for _ in range(self.rnd.choice((1, 1, 1, 2, 3))))
@@ -85,11 +95,15 @@ class Archive:
 
     def line(self):
         kind = self.rnd.random()
-        if kind < .06:
+        if kind < .045:
             return self.rnd.choice(BAD_PATHS)
-        if kind < .065:
+        if kind < .05:
             return self.rnd.choice(self.names) * self.rnd.choice((1000, 3000, 30000))
-        # Often something in or beside the directory of a rule file.
+        text = self.path()
+        return with_control(self.rnd, text) if kind < .065 else text
+
+    def path(self):
+        """Often something in or beside the directory of a rule file."""
         front = self.rnd.choice((b"", self.rnd.choice(self.files)[1]))
         joint = self.rnd.choice((b"/", b"/", b"/", b"line", b"")) if front else b""
         return front + joint + path(self.rnd, self.names) + self.rnd.choice((b"", b"", b"/"))

@@ -1,10 +1,12 @@
-"""Both sides of every limit: refusals 2 to 6, the lengths of paths and of lines in the listing."""
-from program import field
+"""Both sides of every limit: refusals 2 to 6, the lengths of paths and of lines in the listing, the bytes of a path."""
+from program import CONTROLS, field
 
 RULES = 65536
 LINE = 2048
 PATH = 4096
 KEPT = 8192
+# Short ones, and beside where several bytes are looked at at a time.
+LENGTHS = (1, 2, 3, 4, 7, 8, 15, 16, 17, 31, 32, 33, 40, 63, 64, 65, 100, PATH - 1, PATH)
 
 
 def files_above(trial):
@@ -51,6 +53,11 @@ def byte_zero(trial):
     trial.answers("byte 0", ["ignore", "nul"], b"a\n", [("a", "refused 4")])
     trial.answers("byte 0 at the end", ["attribute", "fill", "one", "end"], b"a\n", [("a", "refused 4")])
     trial.answers("byte 1", ["ignore", "one"], b"a\n", [("a", "ignored", "a", "one", 2)])
+    # What is refused in a path is none of this refusal.
+    lines = [b"z%c" % byte for byte in CONTROLS if byte not in b"\0\n"]
+    trial.write({"lines": b"\n".join(lines) + b"\na\n", "values": b"".join(b"a fill=%s\n" % line for line in lines)})
+    trial.answers("control bytes in lines", ["ignore", "lines"], b"a\nb\n", [("a", "ignored", "a", "lines", len(lines) + 1), ("b", "nothing")])
+    trial.answers("control bytes in values", ["attribute", "fill", "values"], b"a\nb\n", [("a", b"value " + field(lines[-1]), "a", "values", len(lines)), ("b", "nothing")])
 
 
 def names(trial):
@@ -76,6 +83,16 @@ def paths(trial):
     trial.answers("a file in the longest directory", ["ignore", "--in", below, "top"], below + b"/f\n", [(below + b"/f", "ignored", below + b"/f", "top", 1)])
 
 
+def path_bytes(trial):
+    """31 and 127 are refused, 32, 126 and 128 taken, first, last and in the middle of a path of any length."""
+    trial.write({"top": b"*\n"})
+    for byte, taken in ((31, False), (32, True), (126, True), (127, False), (128, True), (13, False), (255, True)):
+        paths = [b"p" * at + bytes([byte]) + b"p" * (length - at - 1) for length in LENGTHS for at in sorted({0, length // 2, length - 1})]
+        said = [("ignored", field(path), "top", 1) if taken else ("refused 1",) for path in paths]
+        trial.answers(f"byte {byte} in paths", ["ignore", "top"], b"".join(path + b"\n" for path in paths),
+                      [(field(path), *fields) for path, fields in zip(paths, said)])
+
+
 def long_lines(trial):
     """A line of the listing has one answer, however long it is, and nothing behind it is lost."""
     trial.write({"top": b"*\n"})
@@ -91,5 +108,5 @@ def long_lines(trial):
 
 
 def check(trial):
-    for part in (files_above, rule_bytes, rule_lines, byte_zero, names, paths, long_lines):
+    for part in (files_above, rule_bytes, rule_lines, byte_zero, names, paths, path_bytes, long_lines):
         part(trial)

@@ -6,12 +6,20 @@ import select
 import subprocess
 import tty
 
-from program import field
+from program import CONTROLS, field
 
-# Written by hand: a path, and how it is printed.
+# Written by hand: a path, a file's name or a value, and how it is printed.
 QUOTED = [(b"a\tb", rb'"a\tb"'), (b"a\r", rb'"a\r"'), (b"\x07\x08\x0b\x0c", rb'"\a\b\v\f"'), (b"\x01\x1f\x7f", rb'"\001\037\177"'),
           (b'"a', rb'"\"a"'), (b'"', rb'"\""'), (b'a"', b'a"'), (b"a\\", b"a\\"), (b"a\\\t", rb'"a\\\t"'), (b'a"\t', rb'"a\"\t"'),
-          (b"\x80\xff\xc2\x85", b"\x80\xff\xc2\x85"), (b"\xe9\t", b'"\xe9\\t"'), (b" a ", b" a "), (b"a\rb", rb'"a\rb"'), (b"\x1b[0m", rb'"\033[0m"')]
+          (b"\x80\xff\xc2\x85", b"\x80\xff\xc2\x85"), (b"\xe9\t", b'"\xe9\\t"'), (b" a ", b" a "), (b"a\rb", rb'"a\rb"'), (b"\x1b[0m", rb'"\033[0m"'),
+          (b"~", b"~"), (b'"~ "', rb'"\"~ \""')]
+# What stands before and behind a byte in a path, and the pattern that takes the path if it may hold the byte.
+PLACES = [(b"", b"/x", b"/*/x"), (b"a", b"b", b"a?b"), (b"c/d", b"", b"c/d?"), (b"e", b"/", b"e?/")]
+
+
+def answer(path, *said):
+    """The fields of a path's answer: this or, if it holds a control byte, refusal 1."""
+    return field(path), *(("refused 1",) if any(byte in CONTROLS for byte in path) else said)
 
 
 def ends(trial):
@@ -23,26 +31,60 @@ def ends(trial):
         trial.answers(f"listing {listing!r}", ["ignore", "top"], listing, expected)
 
 
+def crlf(trial):
+    """With CRLF ends every path is refused, and told why (program.py's REASONS); the lines beside these are answered. A BOM is part of a path."""
+    trial.write({"top": b"a\ncal/\n"})
+    a, cal, none = ("a", "ignored", "a", "top", 1), ("cal/", "ignored", "cal/", "top", 2), (rb'"\r"', "refused 1")
+    bad, bad_cal, bom = (rb'"a\r"', "refused 1"), (rb'"cal/\r"', "refused 1"), b"\xef\xbb\xbfa"
+    for listing, expected in ((b"a\r\ncal/\r\na\r\n", [bad, bad_cal, bad]), (b"\r\n\r\n", [none, none]), (b"a\r", [bad]), (b"\r", [none]),
+                              (b"a\r\r\n", [(rb'"a\r\r"', "refused 1")]), (b"a\ncal/\r\na\r\ncal/", [a, bad_cal, bad, cal]), (b"\r\na\n", [none, a]),
+                              (b"a\r\na\n\r\n\n", [bad, a, none, ("", "refused 1")]), (bom + b"\na\r\n", [(bom, "nothing"), bad]),
+                              (bom + b"\r\na\n", [(b'"' + bom + b'\\r"', "refused 1"), a])):
+        trial.answers(f"CRLF ends {listing!r}", ["ignore", "top"], listing, expected)
+    trial.write({"values": b"* fill=v\r\n"})
+    trial.answers("CRLF ends on both sides", ["attribute", "fill", "values"], b"a\r\na\n", [bad, ("a", "value v", "a", "values", 1)])
+
+
 def quoting(trial):
-    """Quoted in the path, in the entry, in the file's name and in a value; the path itself is asked as it is."""
-    for path, shown in QUOTED:
-        assert field(path) == shown, f"the tests' own quoting of {path!r}"
-        trial.write({path: b"*\n", "values": b"* fill=" + re.sub(rb"[\t\r ]", b"", path) + b"\n"})
-        trial.answers(f"quoting {path!r}", ["ignore", path], path + b"\n", [(shown, "ignored", shown, shown, 1)])
-        below = field(path + b"/a"), field(path + b"/")
-        trial.answers(f"quoting below {path!r}", ["ignore", path], path + b"/a\n", [(below[0], "ignored", below[1], shown, 1)])
-        value = b"value " + field(re.sub(rb"[\t\r ]", b"", path))
-        trial.answers(f"quoting a value {path!r}", ["attribute", "fill", "values"], b"a\n", [("a", value, "a", "values", 1)])
+    """Quoted in the path, in the entry, in the file's name and in a value. A path with a control byte is refused, and shown so all the same."""
+    for text, shown in QUOTED:
+        assert field(text) == shown, f"the tests' own quoting of {text!r}"
+        value = re.sub(rb"[\t\r ]", b"", text)
+        trial.write({text: b"*\n", "values": b"* fill=" + value + b"\n"})
+        trial.answers(f"quoting {text!r}", ["ignore", text], text + b"\n", [answer(text, "ignored", shown, shown, 1)])
+        below = field(text + b"/")
+        trial.answers(f"quoting below {text!r}", ["ignore", text], b"%s/a\n%s/\n" % (text, text),
+                      [answer(text + b"/a", "ignored", below, shown, 1), answer(text + b"/", "ignored", below, shown, 1)])
+        trial.answers(f"quoting a file's name {text!r}", ["ignore", text], b"a\n", [("a", "ignored", "a", shown, 1)])
+        trial.answers(f"quoting a value {text!r}", ["attribute", "fill", "values"], b"a\n", [("a", b"value " + field(value), "a", "values", 1)])
     trial.write({"top": b"*\n"})
     trial.answers("byte 0 in a path", ["ignore", "top"], b"a\0b\na\n", [(rb'"a\000b"', "refused 1"), ("a", "ignored", "a", "top", 1)])
-    trial.answers("CR and the slash", ["ignore", "top"], b"cal/\r\n", [(rb'"cal/\r"', "ignored", "cal/", "top", 1)])
+    trial.answers("CR and the slash", ["ignore", "top"], b"cal/\r\n", [(rb'"cal/\r"', "refused 1")])
 
 
 def every_byte(trial):
-    """No byte of a path breaks the line or its fields."""
-    trial.write({"top": b"/*/x\n"})
-    paths = [bytes([byte]) + b"/x" for byte in range(256) if byte not in b"\n\0./"]
-    trial.answers("every byte", ["ignore", "top"], b"\n".join(paths), [(field(path), "ignored", field(path), "top", 1) for path in paths])
+    """No byte of a path breaks the line or its fields; at every place, by both questions, the control bytes are refused and no other is."""
+    trial.write({"top": b"".join(pattern + b"\n" for _, _, pattern in PLACES), "values": b"".join(pattern + b" fill\n" for _, _, pattern in PLACES)})
+    for line, (front, behind, _) in enumerate(PLACES, 1):
+        # A newline ends the path, `/` cuts it, and `.` alone is refused.
+        paths = [front + bytes([byte]) + behind for byte in range(256) if byte not in b"\n./"]
+        trial.answers(f"every byte, line {line}", ["ignore", "top"], b"\n".join(paths), [answer(path, "ignored", field(path), "top", line) for path in paths])
+        trial.answers(f"every byte, value {line}", ["attribute", "fill", "values"], b"\n".join(paths),
+                      [answer(path, "set", field(path), "values", line) for path in paths])
+
+
+def every_byte_of_names(trial):
+    """Nor does a byte of a rule file's name, or of a value; there the control bytes are no refusal."""
+    names = [bytes([byte]) + b"x" for byte in range(1, 256) if byte != ord("/")]
+    trial.write({name: b"*\n" for name in names})
+    words = [word for number, name in enumerate(names) for word in ("--in", f"d{number}", name)]
+    trial.answers("every byte of a name", ["ignore", *words], b"".join(b"d%d/a\n" % number for number in range(len(names))),
+                  [(f"d{number}/a", "ignored", f"d{number}/a", field(name), 1) for number, name in enumerate(names)])
+    # Blanks would end the value.
+    values = [bytes([byte]) + b"x" for byte in range(1, 256) if byte not in b"\t\n\r "]
+    trial.write({"values": b"".join(b"v%d fill=%s\n" % pair for pair in enumerate(values))})
+    trial.answers("every byte of a value", ["attribute", "fill", "values"], b"".join(b"v%d\n" % number for number in range(len(values))),
+                  [(f"v{number}", b"value " + field(value), f"v{number}", "values", number + 1) for number, value in enumerate(values)])
 
 
 def through_pipes(trial):
@@ -84,5 +126,5 @@ def broken_off(trial):
 
 
 def check(trial):
-    for part in (ends, quoting, every_byte, through_pipes, at_once, broken_off):
+    for part in (ends, crlf, quoting, every_byte, every_byte_of_names, through_pipes, at_once, broken_off):
         part(trial)

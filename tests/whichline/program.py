@@ -11,8 +11,11 @@ import tempfile
 ROOT = pathlib.Path(__file__).resolve().parent.parent.parent
 BUILT = ROOT / "target" / "bin" / "whichline"
 LETTERS = {7: b"a", 8: b"b", 9: b"t", 10: b"n", 11: b"v", 12: b"f", 13: b"r", 34: b'"', 92: b"\\"}
-# What the reason of each refusal must speak of. The rest of its words is the program's.
-REASONS = {1: b"path", 2: b"64", 3: b"65,536", 4: b"byte 0", 5: b"2,048", 6: b"name"}
+# The bytes of refusal 1 (02's R-8), which a path cannot hold; a rule file's name, a value and a rule line can.
+CONTROLS = [*range(32), 127]
+# What the reason of each refusal must speak of. The rest of its words is the program's. A listing with CRLF ends has refusal 1
+# for every path, and its user has to find out why.
+REASONS = {1: [b"path", b"control byte", b"CRLF"], 2: [b"64"], 3: [b"65,536"], 4: [b"byte 0"], 5: [b"2,048"], 6: [b"name"]}
 
 
 def find(words):
@@ -40,7 +43,8 @@ def same(printed, expected):
     refusal = re.fullmatch(rb"refused (\d)", wanted[1])
     if not refusal:
         return got == wanted
-    return len(got) == len(wanted) and got[0] == wanted[0] and got[1].startswith(wanted[1] + b": ") and REASONS[int(refusal[1])] in got[1]
+    fits = len(got) == len(wanted) and got[0] == wanted[0] and got[1].startswith(wanted[1] + b": ")
+    return fits and all(word in got[1] for word in REASONS[int(refusal[1])])
 
 
 def shorter(text):

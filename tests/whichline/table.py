@@ -3,6 +3,8 @@ import pathlib
 import re
 import shlex
 
+from program import field
+
 TABLE = pathlib.Path(__file__).resolve().parent / "answers.txt"
 
 
@@ -41,4 +43,4 @@ def check(trial):
         assert paths, f"{title}: a question without paths"
         trial.write(files)
         listing = b"".join(path + b"\n" for path, _ in paths)
-        trial.answers(f"{title}: {b' '.join(words).decode(errors='replace')}", words, listing, [(path, *fields) for path, fields in paths])
+        trial.answers(f"{title}: {b' '.join(words).decode(errors='replace')}", words, listing, [(field(path), *fields) for path, fields in paths])

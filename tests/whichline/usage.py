@@ -2,6 +2,8 @@
 import os
 import subprocess
 
+from program import CONTROLS, field
+
 RULES = 65536
 # What is asked, and what the one line must speak of.
 WORDS = [([], b"ignore"), (["fill"], b"ignore"), (["ignored", "top"], b"ignore"), ([""], b"ignore"), (["--fold", "ignore", "top"], b"ignore"),
@@ -11,11 +13,15 @@ WORDS = [([], b"ignore"), (["fill"], b"ignore"), (["ignored", "top"], b"ignore")
          (["ignore", "missing"], b"missing: "), (["ignore", "top", "--in", "sky", "missing"], b"missing: "), (["ignore", ""], b'"": '),
          (["attribute", "fill", "top", "missing"], b"missing: "), (["ignore", "folder"], b"folder: "), (["ignore", "top/"], b"top/: "),
          (["ignore", "top", "n" * 5000], b"too long"), (["ignore", "top", "--in", "n" * 5000, "top"], b"too long"), (["-h"], b"--help"),
-         (["ignore", "no\nfile"], rb'"no\nfile": '), (["ignore", "--a\nb", "top"], rb'"--a\nb": '), (["ignore", "top", "--in", "a\n/", "missing\x1b"], rb'"missing\033": '),
+         (["ignore", "no\nfile"], rb'"no\nfile": '), (["ignore", "--a\nb", "top"], rb'"--a\nb": '), (["ignore", "top", "--in", "a/", "missing\x1b"], rb'"missing\033": '),
+         (["ignore", "top", "--in", "a\n/", "missing\x1b"], rb'"a\n/": no directory'),
          (["ignore", "--in", "--fold", "top"], b"--in"), (["ignore", "--in", "sky", "--fold", "top"], b"--in"), (["ignore", "--in", "--in", "sky", "top"], b"--in"),
          (["attribute", "--fold", "fill", "top"], b"its name"), (["attribute", "--in", "sky", "top"], b"its name"),
          (["ignore", "top", "large"], b"large: over 65,536"), (["attribute", "fill", "huge"], b"huge: over 65,536"), (["ignore", "endless"], b"endless: over 65,536")]
-NO_DIRECTORIES = ["", "/", ".", "..", "./sky", "../sky", "sky/..", "/a", "/a/", "a//b", "a//", "//", "a/./b", "a/../b/", "n" * 4097 + "/"]
+NO_DIRECTORIES = ["", "/", ".", "..", "./sky", "../sky", "sky/..", "/a", "/a/", "a//b", "a//", "//", "a/./b", "a/../b/", "n" * 4097 + "/",
+                  "a\n/", "a\n", "\tb", "a\rb/c", "a/\x7f", "\x01", "sky/\r/", "\x1f~", *(f"a{chr(byte)}b" for byte in CONTROLS[1:])]
+# Bytes beside those that no directory may hold.
+DIRECTORIES = [b"a b", b" ", b"~", b"~/", b"a/~ ", b'"a"', b"\x80", b"\xff/\x80/", b"\xc2\x85"]
 
 
 def words(trial):
@@ -25,8 +31,20 @@ def words(trial):
     for asked, part in WORDS:
         trial.complains(f"asked {[word[:20] for word in asked]}", asked, part)
     for directory in NO_DIRECTORIES:
-        part = b"too long" if len(directory) > 4096 else b"whichline: " + (directory.encode() or b'""') + b": no directory"
+        part = b"too long" if len(directory) > 4096 else b"whichline: " + (field(directory.encode()) or b'""') + b": no directory"
         trial.complains(f"--in {directory[:20]!r}", ["ignore", "top", "--in", directory, "top"], part)
+
+
+def directories(trial):
+    """A directory may hold every byte that a path may hold."""
+    trial.write({"top": b"*\n"})
+    for directory in DIRECTORIES:
+        path = directory.rstrip(b"/") + b"/x"
+        trial.answers(f"--in {directory!r}", ["ignore", "--in", directory, "top"], path + b"\nx\n", [(field(path), "ignored", field(path), "top", 1), ("x", "nothing")])
+    good = [b"a%cb" % byte for byte in range(32, 256) if byte not in CONTROLS]
+    words = [word for directory in good for word in ("--in", directory, "top")]
+    trial.answers("--in with every other byte", ["ignore", *words], b"".join(directory + b"/x\n" for directory in good),
+                  [(directory + b"/x", "ignored", directory + b"/x", "top", 1) for directory in good])
 
 
 def many(trial):
@@ -76,5 +94,5 @@ def helps(trial):
 
 
 def check(trial):
-    for part in (words, many, unreadable, streams, helps):
+    for part in (words, directories, many, unreadable, streams, helps):
         part(trial)
