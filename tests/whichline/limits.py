@@ -5,8 +5,8 @@ RULES = 65536
 LINE = 2048
 PATH = 4096
 KEPT = 8192
-# Short ones, and beside where several bytes are looked at at a time.
-LENGTHS = (1, 2, 3, 4, 7, 8, 15, 16, 17, 31, 32, 33, 40, 63, 64, 65, 100, PATH - 1, PATH)
+# In short paths a byte is put at every place: the program looks at them in parts.
+SHORT = 70
 
 
 def files_above(trial):
@@ -84,10 +84,12 @@ def paths(trial):
 
 
 def path_bytes(trial):
-    """31 and 127 are refused, 32, 126 and 128 taken, first, last and in the middle of a path of any length."""
+    """31 and 127 are refused, 32, 126 and 128 taken, wherever they stand in a path of any length."""
     trial.write({"top": b"*\n"})
+    places = [(at, length) for length in range(1, SHORT) for at in range(length)]
+    places += [(at, length) for length in (100, 1000, PATH - 1, PATH) for at in (0, length // 2, length - 1)]
     for byte, taken in ((31, False), (32, True), (126, True), (127, False), (128, True), (13, False), (255, True)):
-        paths = [b"p" * at + bytes([byte]) + b"p" * (length - at - 1) for length in LENGTHS for at in sorted({0, length // 2, length - 1})]
+        paths = [b"p" * at + bytes([byte]) + b"p" * (length - at - 1) for at, length in places]
         said = [("ignored", field(path), "top", 1) if taken else ("refused 1",) for path in paths]
         trial.answers(f"byte {byte} in paths", ["ignore", "top"], b"".join(path + b"\n" for path in paths),
                       [(field(path), *fields) for path, fields in zip(paths, said)])
