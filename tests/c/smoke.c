@@ -271,11 +271,23 @@ static void path_places(size_t len)
     }
 }
 
-/* Lengths beside those at which a scan may be cut into parts. */
+/* Each byte at each place of a path so long, but `/`, which cuts it, and `.`, which alone is a bad component. */
+static void path_whole(size_t len)
+{
+    for (size_t i = 0; i < 256 * len; i++) {
+        int x = (int)(i % 256);
+        struct bytes path = fill(len);
+        if (x == '/' || x == '.') continue;
+        filled[i / 256] = (char)x;
+        path_is(x >= 32 && x != 127, path);
+    }
+}
+
+/* Short paths, which are scanned in parts, as a whole; longer ones by places. */
 static void path_lengths(void)
 {
     static const size_t others[] = { 100, 127, 128, 129, FIDSHORE_PATH_LIMIT - 1, FIDSHORE_PATH_LIMIT };
-    for (size_t len = 1; len <= 70; len++) path_places(len);
+    for (size_t len = 1; len <= 70; len++) path_whole(len);
     for (size_t i = 0; i < sizeof others / sizeof *others; i++) path_places(others[i]);
 }
 
