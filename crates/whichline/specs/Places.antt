@@ -58,7 +58,7 @@ afterField room place s = cond (plain s) (after room place (length s)) (after ro
 -- how many bytes the words of a refusal have
 unfoldable pub reasonLength : ℕ → ℕ
 reasonLength n =
-    cond (eqb n 1) 165 (cond (eqb n 2) 39 (cond (eqb n 3) 61 (cond (eqb n 4) 36 (cond (eqb n 5) 56 (cond (eqb n 6) 116 13)))))
+    cond (eqb n 1) 166 (cond (eqb n 2) 39 (cond (eqb n 3) 61 (cond (eqb n 4) 36 (cond (eqb n 5) 56 (cond (eqb n 6) 116 13)))))
 
 -- a refusal is put: `refused `, its number, `: ` and its words
 abbrev pub AfterRefusal : List ℕ → ℕ → ℕ → ℕ → Type 0

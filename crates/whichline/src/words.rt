@@ -106,7 +106,7 @@ pub fn reason(number: u8, out: &mut [u8], at: usize) -> usize
         1 => append(
             out,
             at,
-            b"the path is empty, over 4,096 bytes, holds a control byte (below 32 or 127, as the CR of a CRLF line end), has `/` first, last or doubled, or a component `.` or `..`",
+            b"the path is empty, over 4,096 bytes, holds a control byte (below 32, or 127; as the CR of a CRLF line end), has `/` first, last or doubled, or a component `.` or `..`",
         ),
         2 => append(out, at, b"over 64 rule files stand above the path"),
         3 => append(
