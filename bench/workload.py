@@ -17,7 +17,7 @@ LINES = (10, 30, 100, 300, 1000, 3000)
 COMPONENTS = (1, 2, 4, 8, 16, 32, 64)
 STARS = (1, 2, 3, 4, 5, 6, 8, 16, 32, 64)
 CROSSINGS = (1, 2, 4, 8, 16, 29)
-PATH_SIZES = (12, 20, 40, 64, 100, 1000, 4096)
+PATH_SIZES = (7, 12, 20, 40, 64, 100, 1000, 4096)
 
 IGNORE = ["*.tmp", "/scratch/", "cal/", "!site07/cal/", "doc/**/*.pdf", "*.log", "!audit.log", "**/h0[0-3]/dark_*",
           "# loggers", "*.nc.part", "*~", "*.sw[op]", "/site39/", "thumbs/*.png", "!thumbs/day.png", "**/quicklook",
@@ -172,7 +172,9 @@ def tables():
 
 
 def long_path(size):
-    """A path of so many bytes, at least 12."""
+    """A path of so many bytes: up to 7, or at least 12."""
+    if size < 12:
+        return b"irra.nc"[-size:]
     front = (b"site07/2026/03/14/h12/" * (size // 22 + 1))[:size - 7]
     return (front[:-1] + b"x" if front.endswith(b"/") else front) + b"/irr.nc"
 

@@ -8,9 +8,11 @@ use native.Mathlib.Omega.{arith}
 use lib.ListN.{length, getD}
 use borrow.Author.Count.{below-more}
 use Rattle.refusals.proofs.Order.{before-or-not}
+use Rattle.refusals.specs.Refusals.{HoldsZero}
+use Rattle.refusals.specs.Questions.{HoldsControl}
 use Rattle.refusals.specs.Places.{ByteIn, Zero}
 
--- such a byte is among these
+-- such a byte is among these; of `ControlByte` this is `HoldsControl`
 abbrev pub Holds : (ℕ → Type 0) → List ℕ → Type 0
 Holds P s = (b : ℕ) × List·Memᴰ b s × P b
 
@@ -20,30 +22,30 @@ at-place P (x ∷ s) zero h p = (x, List·Memᴰ·head refl, p)
 at-place P (x ∷ s) (suc i) h p = let m = at-place P s i (omega arith) p in (m .0, List·Memᴰ·tail (m .1), m .2)
 
 -- A scan from place i: before place j, `found` says whether such a byte was seen.
-abbrev pub Seen : (ℕ → Type 0) → List ℕ → Bool → ℕ → ℕ → Type 0
-Seen P s found i j = (found ≡ true → ByteIn P s i j) × (found ≡ false → (k : ℕ) → k < j → i ≤ k → P (getD s k 0) → ⊥)
+abbrev pub Scanned : (ℕ → Type 0) → List ℕ → Bool → ℕ → ℕ → Type 0
+Scanned P s found i j = (found ≡ true → ByteIn P s i j) × (found ≡ false → (k : ℕ) → k < j → i ≤ k → P (getD s k 0) → ⊥)
 
-pub seen-begin : (P : ℕ → Type 0) (s : List ℕ) (i : ℕ) → Seen P s false i (i + 0)
-seen-begin P s i = (λ e. absurd (false≢true e), λ e k l h. absurd (omega arith))
+pub scanned-begin : (P : ℕ → Type 0) (s : List ℕ) (i : ℕ) → Scanned P s false i (i + 0)
+scanned-begin P s i = (λ e. absurd (false≢true e), λ e k l h. absurd (omega arith))
 
-pub seen-here : (P : ℕ → Type 0) (s : List ℕ) (found : Bool) (i j : ℕ) → P (getD s (i + j) 0) → found ≡ true → Seen P s found i (i + (j + 1))
+pub scanned-here : (P : ℕ → Type 0) (s : List ℕ) (found : Bool) (i j : ℕ) → P (getD s (i + j) 0) → found ≡ true → Scanned P s found i (i + (j + 1))
 unfolding ByteIn
-seen-here P s found i j p e = (λ h. (i + j, omega arith, omega arith, p), λ h. absurd (false≢true (sym h ∙ e)))
+scanned-here P s found i j p e = (λ h. (i + j, omega arith, omega arith, p), λ h. absurd (false≢true (sym h ∙ e)))
 
-pub seen-other : (P : ℕ → Type 0) (s : List ℕ) (before found : Bool) (i j : ℕ) → (P (getD s (i + j) 0) → ⊥) → Seen P s before i (i + j) → found ≡ before
-    → Seen P s found i (i + (j + 1))
+pub scanned-other : (P : ℕ → Type 0) (s : List ℕ) (before found : Bool) (i j : ℕ) → (P (getD s (i + j) 0) → ⊥) → Scanned P s before i (i + j) → found ≡ before
+    → Scanned P s found i (i + (j + 1))
 unfolding ByteIn
-seen-other P s before found i j p h e =
+scanned-other P s before found i j p h e =
     let q : i + j + 1 ≡ i + (j + 1) = omega arith in (
       λ t. let w = h .0 (sym e ∙ t) in (w .0, w .1, omega (arith, w .2), w .3),
       λ t. subst (λ (n : ℕ). (k : ℕ) → k < n → i ≤ k → P (getD s k 0) → ⊥) q (below-more _ (i + j) (h .1 (sym e ∙ t)) (λ l. p)),
     )
 
-pub seen-end : (P : ℕ → Type 0) (s : List ℕ) (found : Bool) (i j n : ℕ) → Seen P s found i (i + j) → j ≤ n → n ≤ j → (found ≡ true) ↔ ByteIn P s i (i + n)
+pub scanned-end : (P : ℕ → Type 0) (s : List ℕ) (found : Bool) (i j n : ℕ) → Scanned P s found i (i + j) → j ≤ n → n ≤ j → (found ≡ true) ↔ ByteIn P s i (i + n)
 unfolding ByteIn
-seen-end P s found i j n h a b = let e : j ≡ n = omega arith in subst (λ (m : ℕ). (found ≡ true) ↔ ByteIn P s i (i + m)) e (go found h)
+scanned-end P s found i j n h a b = let e : j ≡ n = omega arith in subst (λ (m : ℕ). (found ≡ true) ↔ ByteIn P s i (i + m)) e (go found h)
   where
-    go : (f : Bool) → Seen P s f i (i + j) → (f ≡ true) ↔ ByteIn P s i (i + j)
+    go : (f : Bool) → Scanned P s f i (i + j) → (f ≡ true) ↔ ByteIn P s i (i + j)
     go true h = (λ e. h .0 e, λ w. refl)
     go false h = (λ e. absurd (false≢true e), λ w. absurd (h .1 refl (w .0) (w .2) (w .1) (w .3)))
 
@@ -61,36 +63,42 @@ all-places P (x ∷ s) m =
     (List·Memᴰ·cases-cons (m .1))
 
 -- one part that is all
-pub holds-whole : (P : ℕ → Type 0) (s : List ℕ) (r : Bool) (n : ℕ) → n ≡ length s → (r ≡ true) ↔ ByteIn P s 0 (0 + n) → (r ≡ true) ↔ Holds P s
-holds-whole P s r n e d =
-    let p : length s ≡ 0 + n = omega arith in (λ h. part-holds P s 0 (0 + n) (omega arith) (d .0 h), λ m. d .1 (subst (ByteIn P s 0) p (all-places P s m)))
+pub holds-whole : (P : ℕ → Type 0) (s : List ℕ) (r : Bool) (n : ℕ) → (r ≡ true) ↔ ByteIn P s 0 n → n ≡ length s → (r ≡ true) ↔ Holds P s
+holds-whole P s r n d e = (λ h. part-holds P s 0 n (omega arith) (d .0 h), λ m. d .1 (subst (ByteIn P s 0) (sym e) (all-places P s m)))
 
--- two parts that cover all
-pub holds-first : (P : ℕ → Type 0) (s : List ℕ) (r : Bool) (w : ℕ) → w ≤ length s → (r ≡ true) ↔ ByteIn P s 0 (0 + w) → r ≡ true → (r ≡ true) ↔ Holds P s
-holds-first P s r w l d e = (λ h. part-holds P s 0 (0 + w) (omega arith) (d .0 h), λ m. e)
+-- two parts that cover all: the first ends at m, the second goes from i to the end
+pub holds-first : (P : ℕ → Type 0) (s : List ℕ) (r : Bool) (m : ℕ) → (r ≡ true) ↔ ByteIn P s 0 m → r ≡ true → m ≤ length s → (r ≡ true) ↔ Holds P s
+holds-first P s r m d e l = (λ h. part-holds P s 0 m l (d .0 h), λ x. e)
 
-pub holds-second : (P : ℕ → Type 0) (s : List ℕ) (a r : Bool) (w n : ℕ) → n ≡ length s → w ≤ n → n ≤ w + w → (a ≡ true) ↔ ByteIn P s 0 (0 + w) → a ≡ false
-    → (r ≡ true) ↔ ByteIn P s (n - w) (n - w + w) → (r ≡ true) ↔ Holds P s
+pub holds-second : (P : ℕ → Type 0) (s : List ℕ) (a r : Bool) (m i n : ℕ) → (a ≡ true) ↔ ByteIn P s 0 m → a ≡ false → (r ≡ true) ↔ ByteIn P s i n → i ≤ m → n ≡ length s
+    → (r ≡ true) ↔ Holds P s
 unfolding ByteIn
-holds-second P s a r w n e l b d f g = (
-  λ h. part-holds P s (n - w) (n - w + w) (omega arith) (g .0 h),
-  λ m. let z = all-places P s m in
-      ⊎-elim (λ i. absurd (false≢true (sym f ∙ d .1 (z .0, omega arith, omega (arith, i), z .3)))) (λ i. g .1 (z .0, omega (arith, i), omega (arith, z .2), z .3)) (before-or-not (z .0) w),
+holds-second P s a r m i n d f g l e = (
+  λ h. part-holds P s i n (omega arith) (g .0 h),
+  λ x. let w = all-places P s x in
+      ⊎-elim (λ b. absurd (false≢true (sym f ∙ d .1 (w .0, omega arith, omega (arith, b), w .3)))) (λ b. g .1 (w .0, omega (arith, b), omega (arith, w .2), w .3)) (before-or-not (w .0) m),
 )
 
 -- byte 0 by itself
 pub zero-among : (s : List ℕ) (r : Bool) → (r ≡ true) ↔ Holds Zero s → (r ≡ true) ↔ List·Memᴰ 0 s
 zero-among s r d = (λ h. let m = d .0 h in subst (λ (b : ℕ). List·Memᴰ b s) (m .2) (m .1), λ m. d .1 (0, m, refl))
 
--- either of two tests
-pub either-in : (P Q : ℕ → Type 0) (s : List ℕ) (p q : Bool) (i n : ℕ) → (p ≡ true) ↔ ByteIn P s i n → (q ≡ true) ↔ ByteIn Q s i n → p ≡ false
-    → (q ≡ true) ↔ ByteIn (λ b. P b ⊎ Q b) s i n
-unfolding ByteIn
-either-in P Q s p q i n d g e = (
-  λ h. let w = g .0 h in (w .0, w .1, w .2, inr (w .3)),
-  λ w. ⊎-elim (λ x. absurd (false≢true (sym e ∙ d .1 (w .0, w .1, w .2, x)))) (λ x. g .1 (w .0, w .1, w .2, x)) (w .3),
-)
+-- and as one of the control bytes
+pub zero-control : (s : List ℕ) → HoldsZero s → HoldsControl s
+zero-control s z = (0, z, inl (omega arith))
 
-pub first-in : (P Q : ℕ → Type 0) (s : List ℕ) (p : Bool) (i n : ℕ) → (p ≡ true) ↔ ByteIn P s i n → p ≡ true → (p ≡ true) ↔ ByteIn (λ b. P b ⊎ Q b) s i n
+-- P holds of a byte exactly when one of two tests does
+abbrev pub Either : (ℕ → Type 0) → (ℕ → Type 0) → (ℕ → Type 0) → Type 0
+Either P Q R = (b : ℕ) → P b ↔ (Q b ⊎ R b)
+
+pub first-in : (P Q R : ℕ → Type 0) (s : List ℕ) (q : Bool) (i n : ℕ) → Either P Q R → (q ≡ true) ↔ ByteIn Q s i n → q ≡ true → (q ≡ true) ↔ ByteIn P s i n
 unfolding ByteIn
-first-in P Q s p i n d e = let w = d .0 e in (λ h. (w .0, w .1, w .2, inl (w .3)), λ m. e)
+first-in P Q R s q i n x d e = let w = d .0 e in (λ h. (w .0, w .1, w .2, x _ .1 (inl (w .3))), λ m. e)
+
+pub second-in : (P Q R : ℕ → Type 0) (s : List ℕ) (q r : Bool) (i n : ℕ) → Either P Q R → (q ≡ true) ↔ ByteIn Q s i n → q ≡ false → (r ≡ true) ↔ ByteIn R s i n
+    → (r ≡ true) ↔ ByteIn P s i n
+unfolding ByteIn
+second-in P Q R s q r i n x d e g = (
+  λ h. let w = g .0 h in (w .0, w .1, w .2, x _ .1 (inr (w .3))),
+  λ w. ⊎-elim (λ y. absurd (false≢true (sym e ∙ d .1 (w .0, w .1, w .2, y)))) (λ y. g .1 (w .0, w .1, w .2, y)) (x _ .0 (w .3)),
+)

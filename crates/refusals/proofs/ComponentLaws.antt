@@ -9,11 +9,11 @@ use lib.Dec.{eqb}
 use lib.ListN.{length}
 use borrow.Author.Tests.{eqb-true}
 use Rattle.refusals.specs.Limits.{pathLimit}
-use Rattle.refusals.specs.Refusals.{HoldsZero}
 use Rattle.refusals.specs.Questions.{SlashMisplaced, Starts, Ends, Component, DotComponent, HoldsControl, BadPath}
 use Rattle.refusals.specs.Scans.{endsHere, dotsHere, badHere, badLater}
 use Rattle.refusals.proofs.Says.{or-cases, and-parts}
 use Rattle.refusals.proofs.ScanLaws.{dots-end}
+use Rattle.refusals.proofs.ByteInLaws.{zero-control}
 
 -- From the scan to the components.
 
@@ -117,10 +117,6 @@ dots-found : (s : List ℕ) → DotComponent s → Seen s
 unfolding badHere dotsHere
 dots-found s (inl k) = component-found s (46 ∷ []) (λ after h. dots-end after (ends-found after h)) k
 dots-found s (inr k) = component-found s (46 ∷ 46 ∷ []) (λ after h. ends-found after h) k
-
--- byte 0 is a control byte
-zero-control : (s : List ℕ) → HoldsZero s → HoldsControl s
-zero-control s z = (0, z, inl (omega arith))
 
 pub good-path : (s : List ℕ) → length s ≤ pathLimit → (HoldsControl s → ⊥) → badHere s ≡ false → badLater s ≡ false → BadPath s → ⊥
 unfolding BadPath badHere

@@ -37,7 +37,7 @@ fn control_in(path: &[u8], i: usize, n: usize) -> bool
     low || delete
 }
 
-// Whether a control byte is among the path's bytes. A path of usual length is covered by two parts of one size that may overlap.
+// Whether a control byte is among the path's bytes. From 8 to 64 bytes two parts of one fixed size, which may overlap, cover them: the compiler takes such a part at once.
 fn holds_control(path: &[u8]) -> bool
     ensures { λ r. ⌜ (r ≡ true) ↔ HoldsControl (now (path .entry)) ⌝ }
 {

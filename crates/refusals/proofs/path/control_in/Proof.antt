@@ -1,9 +1,10 @@
 -- `refusals::path::control_in` meets its contract: each flag says whether its test held of one of the j bytes passed.
-use Rattle.refusals.proofs.ByteInLaws.{Seen, seen-begin, seen-here, seen-other, seen-end, first-in, either-in}
+use Rattle.refusals.proofs.ByteInLaws.{Scanned, scanned-begin, scanned-here, scanned-other, scanned-end, Either, first-in, second-in}
 use mathlib.Core.Path.{_≡_}
-use mathlib.Core.Logic.{⊎-elim}
+use mathlib.Core.Logic.{inl, inr, ⊎-elim}
 use Prim.Native.Nat.{ℕ, _+_, _-_, _<_, _≤_}
 use native.Mathlib.Omega.{arith}
+use Rattle.refusals.specs.Questions.{ControlByte}
 use Rattle.refusals.proofs.path.control_in.Statement.{statement}
 use Rattle.refusals.proofs.path.control_in.Tie as tie
 
@@ -13,14 +14,18 @@ Low b = b < 32
 abbrev Delete : ℕ → Type 0
 Delete b = b ≡ 127
 
+low-or-delete : Either ControlByte Low Delete
+low-or-delete b =
+    (⊎-elim (λ l. inl (omega (arith, l))) (λ e. inr (omega (arith, e))), ⊎-elim (λ l. inl (omega (arith, l))) (λ e. inr (omega (arith, e))))
+
 abbrev Inv-loop : tie.InvT-loop
-Inv-loop path i n low₀ delete₀ j₀ low delete j = (j ≤ n) × Seen Low path low i (i + j) × Seen Delete path delete i (i + j)
+Inv-loop path i n low₀ delete₀ j₀ low delete j = (j ≤ n) × Scanned Low path low i (i + j) × Scanned Delete path delete i (i + j)
 
 abbrev μ-loop : tie.MeasureT-loop
 μ-loop path i n low₀ delete₀ j₀ low delete j = n - j
 
 loop-holds : tie.Need-loop-holds Inv-loop μ-loop
-loop-holds c = (omega arith, seen-begin Low _ _, seen-begin Delete _ _)
+loop-holds c = (omega arith, scanned-begin Low _ _, scanned-begin Delete _ _)
 
 add-if1 : tie.Need-add-if1 Inv-loop μ-loop
 add-if1 c = omega arith
@@ -44,17 +49,17 @@ loop-again : tie.Need-loop-again Inv-loop μ-loop
 loop-again c =
     let at = c .before .before .before .before .before .loop .inv in (
       omega (arith, at .0),
-      ⊎-elim (λ w. seen-here Low _ _ _ _ (w .0 .taken) (w .1)) (λ w. seen-other Low _ _ _ _ _ (λ l. absurd (omega (arith, l, w .0 .left))) (at .1) (w .1)) (c .before .before .if1 .came),
-      ⊎-elim (λ w. seen-here Delete _ _ _ _ (w .0 .taken) (w .1)) (λ w. seen-other Delete _ _ _ _ _ (w .0 .left) (at .2) (w .1)) (c .if2 .came),
+      ⊎-elim (λ w. scanned-here Low _ _ _ _ (omega (arith, w .0 .taken)) (w .1)) (λ w. scanned-other Low _ _ _ _ _ (λ l. absurd (omega (arith, l, w .0 .left))) (at .1) (w .1)) (c .before .before .if1 .came),
+      ⊎-elim (λ w. scanned-here Delete _ _ _ _ (omega (arith, w .0 .taken)) (w .1)) (λ w. scanned-other Delete _ _ _ _ _ (λ e. absurd (omega (arith, e, w .0 .left))) (at .2) (w .1)) (c .if2 .came),
     )
 
 returns : tie.Need-returns Inv-loop μ-loop
-returns c = let at = c .before .before .loop .inv in first-in Low Delete _ _ _ _ (seen-end Low _ _ _ _ _ (at .1) (at .0) (c .before .loop-test .left)) (c .if3 .taken)
+returns c = let at = c .before .before .loop .inv in first-in ControlByte Low Delete _ _ _ _ low-or-delete (scanned-end Low _ _ _ _ _ (at .1) (at .0) (c .before .loop-test .left)) (c .if3 .taken)
 
 returns-2 : tie.Need-returns-2 Inv-loop μ-loop
 returns-2 c =
     let at = c .before .before .loop .inv in
-    either-in Low Delete _ _ _ _ _ (seen-end Low _ _ _ _ _ (at .1) (at .0) (c .before .loop-test .left)) (seen-end Delete _ _ _ _ _ (at .2) (at .0) (c .before .loop-test .left)) (c .if3 .left)
+    second-in ControlByte Low Delete _ _ _ _ _ low-or-delete (scanned-end Low _ _ _ _ _ (at .1) (at .0) (c .before .loop-test .left)) (c .if3 .left) (scanned-end Delete _ _ _ _ _ (at .2) (at .0) (c .before .loop-test .left))
 
 pub control-in-spec : {M : Type 1} → statement M
 control-in-spec =
