@@ -244,18 +244,16 @@ static void paths(void)
     both(none, fill(sizeof filled), 0, FIDSHORE_REFUSED + 1);
 }
 
-/* Every byte but `/` as the first, a middle and the last of a path, and in a
- * parent. It is refused below 32 and at 127, and nowhere above. */
-static void path_bytes(void)
+/* Every byte in a parent: alone, first and last there, and in a parent below another. */
+static void parent_bytes(void)
 {
     for (int x = 0; x < 256; x++) {
-        char first[] = { (char)x, 'a' }, middle[] = { 'a', (char)x, 'b' }, last[] = { 'a', (char)x }, parent[] = { 'a', (char)x, '/', 'b' };
-        int good = x >= 32 && x != 127;
-        if (x == '/') continue;
+        char alone[] = { (char)x, '/', 'b' }, first[] = { (char)x, 'a', '/', 'b' }, last[] = { 'a', (char)x, '/', 'b' }, below[] = { 'a', '/', (char)x, '/', 'b' };
+        int good = x >= 32 && x != 127 && x != '/';
+        path_is(good && x != '.', (struct bytes){ alone, sizeof alone });
         path_is(good, (struct bytes){ first, sizeof first });
-        path_is(good, (struct bytes){ middle, sizeof middle });
         path_is(good, (struct bytes){ last, sizeof last });
-        path_is(good, (struct bytes){ parent, sizeof parent });
+        path_is(good && x != '.', (struct bytes){ below, sizeof below });
     }
 }
 
@@ -271,15 +269,21 @@ static void path_places(size_t len)
     }
 }
 
-/* Each byte at each place of a path so long, but `/`, which cuts it, and `.`, which alone is a bad component. */
+/* Is a path of so many letters taken with this byte at this place? */
+static int taken(int x, size_t place, size_t len)
+{
+    if (x == '/') return place > 0 && place + 1 < len;
+    return x >= 32 && x != 127 && (x != '.' || len > 1);
+}
+
+/* Each byte at each place of a path so long. */
 static void path_whole(size_t len)
 {
     for (size_t i = 0; i < 256 * len; i++) {
         int x = (int)(i % 256);
         struct bytes path = fill(len);
-        if (x == '/' || x == '.') continue;
         filled[i / 256] = (char)x;
-        path_is(x >= 32 && x != 127, path);
+        path_is(taken(x, i / 256, len), path);
     }
 }
 
@@ -423,8 +427,8 @@ int main(int count, char **words)
     matcher_bytes();
     header_examples();
     paths();
-    path_bytes();
     path_lengths();
+    parent_bytes();
     rule_bytes();
     lines();
     names();
