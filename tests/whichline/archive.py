@@ -2,7 +2,7 @@
 from program import CONTROLS
 
 NAMES = [b"cal", b"sky", b"skyline", b"north", b"h07.jpg", b"h17.nc", b"a.tmp", b"Cal", b"SKY", b"a b", b"\xc3\xa9"]
-ODD_NAMES = [b'"q', b"~", b'""', b"\\", b"[a]", b"*", b"!a", b"#a", b"...", b"-a", b"\x80", b"\xff", b" "]
+ODD_NAMES = [b'"q', b'"a\\b', b'"\\', b'"c d"', b"~", b'""', b"\\", b"[a]", b"*", b"!a", b"#a", b"...", b"-a", b"\x80", b"\xff", b" "]
 CLASSES = [b"[a-z]", b"[!x]", b"[^a-c]", b"[[:alpha:]]", b"[0-9h]", b"[![:digit:]]", b"[]c]"]
 # Where document 01 and git differ, or a line says nothing: the twin alone judges these.
 ODD_PATTERNS = [b"***", b"cal/***", b"sk**/north", b"[", b"[[:x:]]", b"\\", b"\\Cal", b"[C]al", b"a\\ ", b"*.tmp \\", b"/", b"//", b"!", b"a//b", b"[[:space:]]", b"[sS-k]ky",

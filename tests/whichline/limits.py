@@ -14,8 +14,8 @@ def files_above(trial):
     trial.write({"top": b"a\n", "sky": b"!a\n"})
     for count, said in ((63, ("re-included", "sky/a", "sky", 1)), (64, ("refused 2",))):
         words = ["ignore", *["top"] * count, "--in", "sky", "sky"]
-        trial.answers(f"{count} files at the top and one in sky", words, b"sky/a\na\nsky\n",
-                      [("sky/a", *said), ("a", "ignored", "a", "top", 1), ("sky", "nothing")])
+        trial.answers(f"{count} files at the top and one in sky", words, b"sky/a\na\nsky\nsky/a\r\n",
+                      [("sky/a", *said), ("a", "ignored", "a", "top", 1), ("sky", "nothing"), (rb'"sky/a\r"', "refused 1")])
     words = ["ignore", *["top"] * 64, *["--in", "sky", "sky"] * 192]
     trial.answers("256 files, 64 above a path", words, b"a\nsky/a\nb\n", [("a", "ignored", "a", "top", 1), ("sky/a", "refused 2"), ("b", "nothing")])
 
@@ -26,7 +26,7 @@ def rule_bytes(trial):
     trial.write({"half": half, "rest": half[:-2] + b"a\n", "more": b"\n", "whole": half + half[:-2] + b"b\n", "none": b""})
     line = RULES // 4
     trial.answers("65,536 bytes in two files", ["ignore", "half", "rest", "none"], b"a\n", [("a", "ignored", "a", "rest", line)])
-    trial.answers("65,537 bytes in three files", ["ignore", "half", "rest", "more"], b"a\n/a\n", [("a", "refused 3"), ("/a", "refused 1")])
+    trial.answers("65,537 bytes in three files", ["ignore", "half", "rest", "more"], b"a\n/a\na\r\n", [("a", "refused 3"), ("/a", "refused 1"), (rb'"a\r"', "refused 1")])
     trial.answers("65,536 bytes in one file", ["ignore", "whole"], b"b\n", [("b", "ignored", "b", "whole", 2 * line)])
     words = ["ignore", "whole", "--in", "sky", "more", "--in", "cal", "whole"]
     trial.answers("files elsewhere do not count", words, b"b\nsky/b\nsky\ncal/b\n",

@@ -12,7 +12,7 @@ from program import CONTROLS, field
 QUOTED = [(b"a\tb", rb'"a\tb"'), (b"a\r", rb'"a\r"'), (b"\x07\x08\x0b\x0c", rb'"\a\b\v\f"'), (b"\x01\x1f\x7f", rb'"\001\037\177"'),
           (b'"a', rb'"\"a"'), (b'"', rb'"\""'), (b'a"', b'a"'), (b"a\\", b"a\\"), (b"a\\\t", rb'"a\\\t"'), (b'a"\t', rb'"a\"\t"'),
           (b"\x80\xff\xc2\x85", b"\x80\xff\xc2\x85"), (b"\xe9\t", b'"\xe9\\t"'), (b" a ", b" a "), (b"a\rb", rb'"a\rb"'), (b"\x1b[0m", rb'"\033[0m"'),
-          (b"~", b"~"), (b'"~ "', rb'"\"~ \""')]
+          (b"~", b"~"), (b'"~ "', rb'"\"~ \""'), (b'"a\\b', rb'"\"a\\b"'), (b'"\\', rb'"\"\\"')]
 # What stands before and behind a byte in a path, and the pattern that takes the path if it may hold the byte.
 PLACES = [(b"", b"/x", b"/*/x"), (b"a", b"b", b"a?b"), (b"c/d", b"", b"c/d?"), (b"e", b"/", b"e?/")]
 

@@ -20,6 +20,8 @@ WORDS = [([], b"ignore"), (["fill"], b"ignore"), (["ignored", "top"], b"ignore")
          (["ignore", "top", "large"], b"large: over 65,536"), (["attribute", "fill", "huge"], b"huge: over 65,536"), (["ignore", "endless"], b"endless: over 65,536")]
 NO_DIRECTORIES = ["", "/", ".", "..", "./sky", "../sky", "sky/..", "/a", "/a/", "a//b", "a//", "//", "a/./b", "a/../b/", "n" * 4097 + "/",
                   "a\n/", "a\n", "\tb", "a\rb/c", "a/\x7f", "\x01", "sky/\r/", "\x1f~", *(f"a{chr(byte)}b" for byte in CONTROLS[1:])]
+NO_DIRECTORY = b": no directory of the archive: give it from the archive's top, as `sky/north`, and without control bytes\n"
+HELP = (b"--fold", b"--in", b"ignore", b"attribute", b"re-included", b"unspecified", b"refused", b"CRLF", b"control byte")
 # Bytes beside those that no directory may hold.
 DIRECTORIES = [b"a b", b" ", b"~", b"~/", b"a/~ ", b'"a"', b"\x80", b"\xff/\x80/", b"\xc2\x85"]
 
@@ -31,7 +33,7 @@ def words(trial):
     for asked, part in WORDS:
         trial.complains(f"asked {[word[:20] for word in asked]}", asked, part)
     for directory in NO_DIRECTORIES:
-        part = b"too long" if len(directory) > 4096 else b"whichline: " + (field(directory.encode()) or b'""') + b": no directory"
+        part = b"too long" if len(directory) > 4096 else b"whichline: " + (field(directory.encode()) or b'""') + NO_DIRECTORY
         trial.complains(f"--in {directory[:20]!r}", ["ignore", "top", "--in", directory, "top"], part)
 
 
@@ -88,7 +90,7 @@ def helps(trial):
     for asked in (["--help"], ["ignore", "--help"], ["attribute", "--help"], ["ignore", "missing", "--help"], ["--bad", "--help"]):
         trial.asked += 1
         done = trial.run(asked, b"a\n", installed=True)
-        missing = [word for word in (b"--fold", b"--in", b"ignore", b"attribute", b"re-included", b"unspecified", b"refused") if word not in done.stdout]
+        missing = [word for word in HELP if word not in done.stdout]
         if missing or done.stderr or done.returncode or not done.stdout.endswith(b"\n"):
             trial.fault(f"help by {asked}", f"status {done.returncode}, said {done.stderr!r}, without {missing}")
 

@@ -28,7 +28,7 @@ fn append_usage(out: &mut [u8]) -> usize {
     append(
         out,
         c,
-        b"marks a directory. A BOM in it is part of a path; a CR, as of a CRLF line end, is too, and the path is refused.\n--fold: ASCII letters match in either case.\n\n",
+        b"marks a directory.\nA BOM in it is part of a path. So is the CR of a CRLF line end, and that path is refused (1): it holds a control byte.\n--fold: ASCII letters match in either case.\n\n",
     )
 }
 
@@ -42,7 +42,7 @@ fn append_answers(out: &mut [u8], at: usize) -> usize {
     let b = append(
         out,
         a,
-        b"unset, value V, unspecified, nothing; or refused N: reason.\nA path, entry, value or file name that begins with a double quote is quoted as in C; so is a value, a file name or a refused path with a control byte.\n",
+        b"unset, value V, unspecified, nothing; or refused N: reason.\nA path, entry, value or file name that begins with a double quote is quoted as in C,\nand so is a value, a file name or a refused path that holds a control byte.\n",
     );
     append(
         out,
@@ -106,7 +106,7 @@ pub fn reason(number: u8, out: &mut [u8], at: usize) -> usize
         1 => append(
             out,
             at,
-            b"the path is empty, over 4,096 bytes, holds a control byte (below 32, or 127; as the CR of a CRLF line end), has `/` first, last or doubled, or a component `.` or `..`",
+            b"the path is empty, over 4,096 bytes, holds a control byte (below 32, as the CR of a CRLF line end, or 127), has `/` first, last or doubled, or a component `.` or `..`",
         ),
         2 => append(out, at, b"over 64 rule files stand above the path"),
         3 => append(

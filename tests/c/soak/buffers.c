@@ -17,6 +17,12 @@ size_t below(size_t n)
 
 int chance(size_t percent) { return below(100) < percent; }
 
+uint8_t control(void)
+{
+    size_t x = 1 + below(32);
+    return x < 32 ? (uint8_t)x : 127;
+}
+
 void add(struct buffer *b, const void *bytes, size_t len)
 {
     if (len > MOST - b->len) {

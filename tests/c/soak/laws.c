@@ -133,10 +133,9 @@ int other_case(const struct question *q, uint32_t code)
 /* With a control byte anywhere in it no path is taken, whatever the rules say (02, R-8). */
 int with_control(const struct question *q, uint32_t code)
 {
-    static const uint8_t controls[] = { 0, 1, '\t', '\n', '\r', 31, 127 };
     (void)code;
     copy_question(&changed, q);
-    changed.second.at[below(q->second.len)] = PICK(controls);
+    changed.second.at[below(q->second.len)] = chance(3) ? 0 : control();
     return gives(17);
 }
 

@@ -12,7 +12,6 @@ static const char *const words[] = {
 };
 static const char *const names[] = { "fill", "a", "Fill", "a.b_c-9", "_", ".", "..", "9", "fill-x", "text" };
 static const char *const faults[] = { "", "/", ".", "..", "/..", "./", "//", "/.", "\n", "z\r", "\x7f" };
-static const uint8_t controls[] = { 1, '\t', '\n', 11, '\r', 31, 127 };
 
 /* Any bytes, at times byte 0 too, or those that mean something to the readers. */
 static void add_noise(struct buffer *b, size_t most)
@@ -37,7 +36,7 @@ static uint64_t make_flags(void)
 }
 
 /* A byte for which the text or path is refused: a text may hold every control byte but 0. */
-static uint8_t refused_byte(enum call call) { return call == MATCH || chance(30) ? 0 : PICK(controls); }
+static uint8_t refused_byte(enum call call) { return call == MATCH || chance(30) ? 0 : control(); }
 
 /* Components, and in some paths a fault. */
 static void make_path(struct buffer *path, enum call call)
@@ -172,7 +171,7 @@ static void make_match(struct question *q)
 {
     size_t kind = below(10);
     make_path(&q->second, MATCH);
-    if (chance(8)) q->second.at[below(q->second.len)] = PICK(controls);
+    if (chance(8)) q->second.at[below(q->second.len)] = control();
     if (kind < 4)
         add_likeness(&q->first, q->second.at, q->second.len);
     else if (kind < 8)
