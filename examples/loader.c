@@ -48,7 +48,7 @@
 static const char *const layers[] = { "fleet", "site" };
 
 static const char *const reasons[] = {
-    [1] = "the path is empty or too long, holds a byte below 32, as the CR of a CRLF line end, or byte 127 (shown as `?`), or has a misplaced `/` or a component `.` or `..`",
+    [1] = "the path is empty or too long, holds a control byte (below 32, as the CR of a CRLF line end, or 127; shown as `?`), or has a misplaced `/` or a component `.` or `..`",
     [3] = "the rules have over 65,536 bytes",
     [4] = "byte 0 in the rules",
     [5] = "a line of the rules has over 2,048 bytes",

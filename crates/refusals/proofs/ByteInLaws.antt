@@ -3,7 +3,7 @@ use mathlib.Core.Path.{_≡_, refl, sym, subst, _∙_}
 use mathlib.Core.Logic.{_⊎_, inl, inr, ⊎-elim, _↔_}
 use mathlib.Core.Bool.{Bool, true, false, false≢true}
 use mathlib.Core.List.{List, [], _∷_, List·Memᴰ, List·Memᴰ·head, List·Memᴰ·tail, List·Memᴰ·cases-cons, List·Memᴰ·not-nil}
-use Prim.Native.Nat.{ℕ, zero, suc, _+_, _-_, _<_, _≤_}
+use Prim.Native.Nat.{ℕ, zero, suc, _+_, _<_, _≤_}
 use native.Mathlib.Omega.{arith}
 use lib.ListN.{length, getD}
 use borrow.Author.Count.{below-more}
@@ -66,17 +66,17 @@ all-places P (x ∷ s) m =
 pub holds-whole : (P : ℕ → Type 0) (s : List ℕ) (r : Bool) (n : ℕ) → (r ≡ true) ↔ ByteIn P s 0 n → n ≡ length s → (r ≡ true) ↔ Holds P s
 holds-whole P s r n d e = (λ h. part-holds P s 0 n (omega arith) (d .0 h), λ m. d .1 (subst (ByteIn P s 0) (sym e) (all-places P s m)))
 
--- two parts that cover all: the first ends at m, the second goes from i to the end
-pub holds-first : (P : ℕ → Type 0) (s : List ℕ) (r : Bool) (m : ℕ) → (r ≡ true) ↔ ByteIn P s 0 m → r ≡ true → m ≤ length s → (r ≡ true) ↔ Holds P s
-holds-first P s r m d e l = (λ h. part-holds P s 0 m l (d .0 h), λ x. e)
+-- two parts that cover all: the first ends at place j, the second goes from i to the end
+pub holds-first : (P : ℕ → Type 0) (s : List ℕ) (r : Bool) (j : ℕ) → (r ≡ true) ↔ ByteIn P s 0 j → r ≡ true → j ≤ length s → (r ≡ true) ↔ Holds P s
+holds-first P s r j d e l = (λ h. part-holds P s 0 j l (d .0 h), λ m. e)
 
-pub holds-second : (P : ℕ → Type 0) (s : List ℕ) (a r : Bool) (m i n : ℕ) → (a ≡ true) ↔ ByteIn P s 0 m → a ≡ false → (r ≡ true) ↔ ByteIn P s i n → i ≤ m → n ≡ length s
+pub holds-second : (P : ℕ → Type 0) (s : List ℕ) (a r : Bool) (j i n : ℕ) → (a ≡ true) ↔ ByteIn P s 0 j → a ≡ false → (r ≡ true) ↔ ByteIn P s i n → i ≤ j → n ≡ length s
     → (r ≡ true) ↔ Holds P s
 unfolding ByteIn
-holds-second P s a r m i n d f g l e = (
+holds-second P s a r j i n d f g l e = (
   λ h. part-holds P s i n (omega arith) (g .0 h),
-  λ x. let w = all-places P s x in
-      ⊎-elim (λ b. absurd (false≢true (sym f ∙ d .1 (w .0, omega arith, omega (arith, b), w .3)))) (λ b. g .1 (w .0, omega (arith, b), omega (arith, w .2), w .3)) (before-or-not (w .0) m),
+  λ m. let w = all-places P s m in
+      ⊎-elim (λ b. absurd (false≢true (sym f ∙ d .1 (w .0, omega arith, omega (arith, b), w .3)))) (λ b. g .1 (w .0, omega (arith, b), omega (arith, w .2), w .3)) (before-or-not (w .0) j),
 )
 
 -- byte 0 by itself

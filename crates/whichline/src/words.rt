@@ -28,7 +28,7 @@ fn append_usage(out: &mut [u8]) -> usize {
     append(
         out,
         c,
-        b"marks a directory.\nA BOM in it is part of a path. So is the CR of a CRLF line end, and that path is refused (1): it holds a control byte.\n--fold: ASCII letters match in either case.\n\n",
+        b"marks a directory.\nA BOM in the listing is part of a path. So is the CR of a CRLF line end, and a path with a control byte is refused.\n--fold: ASCII letters match in either case.\n\n",
     )
 }
 

@@ -28,7 +28,7 @@ struct question {
 void start_random(uint64_t seed);
 size_t below(size_t n);
 int chance(size_t percent);
-uint8_t control(void); /* below 32 or 127, and not 0 */
+uint8_t control(void); /* 1 to 31, or 127 */
 void add(struct buffer *b, const void *bytes, size_t len);
 void add_text(struct buffer *b, const char *text);
 void add_byte(struct buffer *b, size_t byte);
