@@ -29,7 +29,14 @@ loop-less : tie.Need-loop-less Inv-loop μ-loop
 loop-less c = omega arith
 
 loop-again : tie.Need-loop-again Inv-loop μ-loop
-loop-again c = (omega arith, ⊎-elim (λ w. scanned-here Zero _ _ _ _ (w .0 .taken) (w .1)) (λ w. scanned-other Zero _ _ _ _ _ (w .0 .left) (c .before .before .before .loop .inv .1) (w .1)) (c .if1 .came))
+loop-again c =
+    let at = c .before .before .before .loop .inv in (
+      omega (arith, at .0),
+      ⊎-elim
+          (λ w. scanned-here Zero _ _ _ _ (w .0 .taken) (w .1))
+          (λ w. scanned-other Zero _ _ _ _ _ (w .0 .left) (at .1) (w .1))
+          (c .if1 .came),
+    )
 
 returns : tie.Need-returns Inv-loop μ-loop
 returns c = scanned-end Zero _ _ _ _ _ (c .before .loop .inv .1) (c .before .loop .inv .0) (c .loop-test .left)

@@ -49,17 +49,28 @@ loop-again : tie.Need-loop-again Inv-loop μ-loop
 loop-again c =
     let at = c .before .before .before .before .before .loop .inv in (
       omega (arith, at .0),
-      ⊎-elim (λ w. scanned-here Low _ _ _ _ (omega (arith, w .0 .taken)) (w .1)) (λ w. scanned-other Low _ _ _ _ _ (λ l. absurd (omega (arith, l, w .0 .left))) (at .1) (w .1)) (c .before .before .if1 .came),
-      ⊎-elim (λ w. scanned-here Delete _ _ _ _ (omega (arith, w .0 .taken)) (w .1)) (λ w. scanned-other Delete _ _ _ _ _ (λ e. absurd (omega (arith, e, w .0 .left))) (at .2) (w .1)) (c .if2 .came),
+      ⊎-elim
+          (λ w. scanned-here Low _ _ _ _ (omega (arith, w .0 .taken)) (w .1))
+          (λ w. scanned-other Low _ _ _ _ _ (λ l. absurd (omega (arith, l, w .0 .left))) (at .1) (w .1))
+          (c .before .before .if1 .came),
+      ⊎-elim
+          (λ w. scanned-here Delete _ _ _ _ (omega (arith, w .0 .taken)) (w .1))
+          (λ w. scanned-other Delete _ _ _ _ _ (λ e. absurd (omega (arith, e, w .0 .left))) (at .2) (w .1))
+          (c .if2 .came),
     )
 
 returns : tie.Need-returns Inv-loop μ-loop
-returns c = let at = c .before .before .loop .inv in first-in ControlByte Low Delete _ _ _ _ low-or-delete (scanned-end Low _ _ _ _ _ (at .1) (at .0) (c .before .loop-test .left)) (c .if3 .taken)
+returns c =
+    let at = c .before .before .loop .inv in
+    let low = scanned-end Low _ _ _ _ _ (at .1) (at .0) (c .before .loop-test .left) in
+    first-in ControlByte Low Delete _ _ _ _ low-or-delete low (c .if3 .taken)
 
 returns-2 : tie.Need-returns-2 Inv-loop μ-loop
 returns-2 c =
     let at = c .before .before .loop .inv in
-    second-in ControlByte Low Delete _ _ _ _ _ low-or-delete (scanned-end Low _ _ _ _ _ (at .1) (at .0) (c .before .loop-test .left)) (c .if3 .left) (scanned-end Delete _ _ _ _ _ (at .2) (at .0) (c .before .loop-test .left))
+    let low = scanned-end Low _ _ _ _ _ (at .1) (at .0) (c .before .loop-test .left) in
+    let delete = scanned-end Delete _ _ _ _ _ (at .2) (at .0) (c .before .loop-test .left) in
+    second-in ControlByte Low Delete _ _ _ _ _ low-or-delete low (c .if3 .left) delete
 
 pub control-in-spec : {M : Type 1} → statement M
 control-in-spec =

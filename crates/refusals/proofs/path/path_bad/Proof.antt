@@ -61,7 +61,13 @@ loop-again : tie.Need-loop-again Inv-loop μ-loop
 loop-again c = c .before .before .before .loop .inv ∙ ⊎-elim (λ w. later-fine _ _ (c .before .before .loop-test .taken) (w .0 .taken) (sym (w .1 .ensures) ∙ w .2 .left)) (λ w. later-plain _ _ (c .before .before .loop-test .taken) (w .left)) (c .if4 .came)
 
 returns-5 : tie.Need-returns-5 Inv-loop μ-loop
-returns-5 c = denies (good-path _ (c .before .before .before .before .before .before .if1 .left) (said-false (c .before .before .before .before .before .holds-control .ensures) (c .before .before .before .before .if2 .left)) (sym (c .before .before .before .bad-here .ensures) ∙ c .before .before .if3 .left) (c .before .loop .inv ∙ later-past _ _ (c .loop-test .left)))
+returns-5 c =
+    let scan = c .before .before .before .before in
+    let short = scan .before .before .if1 .left in
+    let clean = said-false (scan .before .holds-control .ensures) (scan .if2 .left) in
+    let good-start = sym (c .before .before .before .bad-here .ensures) ∙ c .before .before .if3 .left in
+    let good-rest = c .before .loop .inv ∙ later-past _ _ (c .loop-test .left) in
+    denies (good-path _ short clean good-start good-rest)
 
 pub path-bad-spec : {M : Type 1} → statement M
 path-bad-spec =
