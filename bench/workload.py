@@ -172,11 +172,9 @@ def tables():
 
 
 def long_path(size):
-    """A path of so many bytes: up to 7, or at least 12."""
-    if size < 12:
-        return b"irra.nc"[-size:]
-    front = (b"site07/2026/03/14/h12/" * (size // 22 + 1))[:size - 7]
-    return (front[:-1] + b"x" if front.endswith(b"/") else front) + b"/irr.nc"
+    """A path of so many bytes: the end of a long one."""
+    path = (b"site07/2026/03/14/h12/" * (size // 22 + 1) + b"irr.nc")[-size:]
+    return b"x" + path[1:] if path.startswith(b"/") else path
 
 
 def sizes():
