@@ -18,6 +18,7 @@ COMPONENTS = (1, 2, 4, 8, 16, 32, 64)
 STARS = (1, 2, 3, 4, 5, 6, 8, 16, 32, 64)
 CROSSINGS = (1, 2, 4, 8, 16, 29)
 PATH_SIZES = (7, 12, 20, 40, 64, 100, 1000, 4096)
+RUN_STARS = (2, 3, 4, 10)
 
 IGNORE = ["*.tmp", "/scratch/", "cal/", "!site07/cal/", "doc/**/*.pdf", "*.log", "!audit.log", "**/h0[0-3]/dark_*",
           "# loggers", "*.nc.part", "*~", "*.sw[op]", "/site39/", "thumbs/*.png", "!thumbs/day.png", "**/quicklook",
@@ -178,11 +179,13 @@ def long_path(size):
 
 
 def sizes():
-    """Both questions over 10 lines, by the path's bytes."""
+    """Both questions over 10 lines, by the path's bytes; the matcher, by the stars of a run that crosses."""
     about = {size: [(long_path(size), 0)] for size in PATH_SIZES}
     ignore, attribute = lines(IGNORE, MORE_IGNORE, 10, SEED), lines(ATTRIBUTES, MORE_ATTRIBUTES, 10, SEED)
+    runs = {stars: one(b"a/" + b"*" * stars + b"/b", b"a/x/y/b") for stars in RUN_STARS}
     return [Table("ignore, path", "ignore", {size: asked(ignore, about[size]) for size in PATH_SIZES}),
-            Table("attribute, path", "attribute", {size: asked(attribute, about[size]) for size in PATH_SIZES})]
+            Table("attribute, path", "attribute", {size: asked(attribute, about[size]) for size in PATH_SIZES}),
+            Table("run, stars", "match", runs)]
 
 
 def write(table, column, file):

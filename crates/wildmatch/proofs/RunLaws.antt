@@ -9,7 +9,7 @@ use native.Mathlib.Omega.{arith}
 use lib.Dec.{eqb}
 use lib.ListN.{length, drop, getD, drop-of-length-le}
 use lib.Seq.{drop-cons}
-use borrow.Author.Tests.{eq-eqb, ne-eqb}
+use borrow.Author.Tests.{eq-eqb, ne-eqb, le-leb, lt-leb}
 use Rattle.wildmatch.proofs.Parts.{from, from-drop}
 use Rattle.wildmatch.specs.Patterns.{stars, startsSlash, componentEnds, crosses}
 
@@ -78,11 +78,11 @@ unfolding crosses
 crosses-not-after true n p e = absurd (false≢true e)
 crosses-not-after false n p e = refl
 
-pub crosses-long : (after : Bool) (n : ℕ) (p : List ℕ) → (n ≡ 2 → ⊥) → false ≡ crosses after n p
+pub crosses-single : (after : Bool) (n : ℕ) (p : List ℕ) → n < 2 → false ≡ crosses after n p
 unfolding crosses
-crosses-long after n p e = rw (ne-eqb n 2 e) (sym (and-false after))
+crosses-single after n p h = rw (lt-leb 2 n h) (sym (and-false after))
 
-pub crosses-two : (after : Bool) (n : ℕ) (p : List ℕ) (r : Bool) → not after ≡ false → n ≡ 2 → r ≡ componentEnds p → r ≡ crosses after n p
+pub crosses-two-or-more : (after : Bool) (n : ℕ) (p : List ℕ) (r : Bool) → not after ≡ false → 2 ≤ n → r ≡ componentEnds p → r ≡ crosses after n p
 unfolding crosses
-crosses-two true n p r a e q = rw (eq-eqb n 2 e) q
-crosses-two false n p r a e q = absurd (false≢true (sym a))
+crosses-two-or-more true n p r a h q = rw (le-leb 2 n h) q
+crosses-two-or-more false n p r a h q = absurd (false≢true (sym a))

@@ -6,7 +6,7 @@ use mathlib.Core.List.{List, [], _∷_}
 use mathlib.Core.Option.{Option, none, some}
 use Prim.Native.Nat.{ℕ, _<_}
 use native.Mathlib.Omega.{arith}
-use lib.Dec.{eqb}
+use lib.Dec.{eqb, leb}
 use lib.ListN.{length, drop, getD}
 use borrow.Author.Tests.{eqb-true, ne-eqb}
 use Rattle.classes.specs.Members.{Class, readClass}
@@ -198,7 +198,7 @@ slash-rest (x ∷ q) h = (q, ap (λ (a : ℕ). a ∷ q) (eqb-true x 47 h))
 
 pub crosses-ends : (after : Bool) (n : ℕ) (q : List ℕ) → crosses after n q ≡ true → (after ≡ true) × (componentEnds q ≡ true)
 unfolding crosses
-crosses-ends true n q h = (refl, and-split (eqb n 2) (componentEnds q) h .1)
+crosses-ends true n q h = (refl, and-split (leb 2 n) (componentEnds q) h .1)
 crosses-ends false n q h = absurd (false≢true h)
 
 escaped-step : (m : Mode) (s u : List ℕ) → tailMatches m false (92 ∷ 47 ∷ s) u ≡ oneThen (λ x. eqb x 47) (tailMatches m true s) u

@@ -1,5 +1,5 @@
--- Document 01, "Frames that must come out right": P1 to P12, "proved facts about the written rules: a single list with one claim
--- covering it".
+-- Document 01, "Frames that must come out right": P1 to P12, and P13 of document 02 (R-2), "proved facts about the written rules: a
+-- single list with one claim covering it".
 use Prim.Native.Nat.{ℕ}
 use mathlib.Core.Path.{_≡_, refl, sym, _∙_}
 use mathlib.Core.Logic.{_↔_}
@@ -33,6 +33,7 @@ frames =
     ∷ frame (65 ∷ []) (91 ∷ 97 ∷ 45 ∷ 122 ∷ 93 ∷ []) false true false true  -- P10: text `A`, pattern `[a-z]`
     ∷ frame ([]) ([]) true true true true  -- P11: text ``, pattern ``
     ∷ frame (116 ∷ 101 ∷ 110 ∷ []) (42 ∷ 42 ∷ 91 ∷ 33 ∷ 116 ∷ 101 ∷ 110 ∷ 93 ∷ []) false false false false  -- P12: text `ten`, pattern `**[!ten]`
+    ∷ frame (97 ∷ 47 ∷ 120 ∷ 47 ∷ 121 ∷ 47 ∷ 98 ∷ []) (97 ∷ 47 ∷ 42 ∷ 42 ∷ 42 ∷ 47 ∷ 98 ∷ []) true true true true  -- P13: text `a/x/y/b`, pattern `a/***/b`
     ∷ []
 
 -- what the table says of a frame in a mode

@@ -3,7 +3,7 @@ use Prim.Native.Nat.{ℕ, zero, suc, pred}
 use mathlib.Core.Bool.{Bool, true, false, cond, _&&_, _||_}
 use mathlib.Core.List.{List, [], _∷_}
 use mathlib.Core.Option.{Option, none, some}
-use lib.Dec.{eqb}
+use lib.Dec.{eqb, leb}
 use lib.ListN.{drop}
 use Rattle.classes.specs.Members.{Class, readClass}
 
@@ -40,12 +40,12 @@ unfoldable pub componentEnds : List ℕ → Bool
 componentEnds [] = true
 componentEnds (x ∷ p) = eqb x 47 || eqb x 92 && startsSlash p
 
--- "exactly two stars, starts the pattern or follows a byte `/`, and is followed by the end, `/` or `\/`. Then it crosses".
--- `after`: the run starts the pattern, or follows a byte `/`; n: how many stars; p: what follows them
+-- "starts the pattern or follows a byte `/`, and is followed by the end, `/` or `\/`. Then it crosses": not one star, but "any run of two
+-- or more" (document 02, R-2). `after`: the run starts the pattern, or follows a byte `/`; n: how many stars; p: what follows them
 unfoldable pub crosses : Bool → ℕ → List ℕ → Bool
-crosses after n p = after && (eqb n 2 && componentEnds p)
+crosses after n p = after && (leb 2 n && componentEnds p)
 
--- how far a run of n stars reaches, with p after it. "Three or more stars count as one star."
+-- how far a run of n stars reaches, with p after it
 unfoldable pub reachOf : Bool → ℕ → List ℕ → Reach
 reachOf after n p = cond (crosses after n p) (cond (startsSlash p) crossing-slash crossing) within
 

@@ -50,7 +50,7 @@ pub fn run_crosses(after: bool, n: usize, p: &[u8]) -> bool
     if !after {
         return false;
     }
-    if n != 2 {
+    if n < 2 {
         return false;
     }
     component_ends(p)

@@ -13,7 +13,7 @@ static int silent_last(const struct question *q, uint32_t code)
 /* A last line that takes the top entry, whatever stands before: all below it is ignored. */
 static int ignoring_last(const struct question *q, uint32_t code)
 {
-    static const char *const all[] = { "*", "**", "*  ", "***", "[!/]*", "?*", "/*", "/**", "**/*", "*\r" };
+    static const char *const all[] = { "*", "**", "*  ", "***", "[!/]*", "?*", "/*", "/**", "/***", "**/*", "*\r" };
     (void)code;
     return with_last(q, PICK(all)) && gives(1);
 }
@@ -21,7 +21,7 @@ static int ignoring_last(const struct question *q, uint32_t code)
 /* A last line that re-includes every entry. */
 static int reincluding_last(const struct question *q, uint32_t code)
 {
-    static const char *const all[] = { "!*", "!**", "!?*", "!**/*", "!/**", "!*  \r" };
+    static const char *const all[] = { "!*", "!**", "!?*", "!**/*", "!***/*", "!/**", "!/****", "!*  \r" };
     (void)code;
     return with_last(q, PICK(all)) && gives(2);
 }

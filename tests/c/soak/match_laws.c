@@ -37,7 +37,25 @@ static int literal_before_both(const struct question *q, uint32_t code)
 static int crossing_before(const struct question *q, uint32_t code)
 {
     static const char *const above[] = { "", "a/", "b/a/", "/", "*/[/" };
-    return code == 1 && path_mode(q) && with_fronts(q, "**/", PICK(above)) && gives(1);
+    static const char *const crossing[] = { "**/", "***/", "**********/" };
+    return code == 1 && path_mode(q) && with_fronts(q, PICK(crossing), PICK(above)) && gives(1);
+}
+
+/* "any run of two or more as it treats two" (document 02, R-2): more stars at the
+ * front of two change nothing. Behind a `\` the two may be a literal and a run of
+ * one; in a class they are listed twice. */
+static int longer_run(const struct question *q, uint32_t code)
+{
+    static const char stars[] = "********";
+    const uint8_t *p = q->first.at;
+    size_t at = below(q->first.len + 1), more = 1 + below(strlen(stars));
+    while (at + 1 < q->first.len && (p[at] != '*' || p[at + 1] != '*' || (at > 0 && p[at - 1] == '\\'))) at++;
+    if (at + 1 >= q->first.len || q->first.len + more > 2048) return 0;
+    copy_question(&changed, q);
+    changed.first.len = at;
+    add(&changed.first, stars, more);
+    add(&changed.first, p + at, q->first.len - at);
+    return gives(code);
 }
 
 static int star_before(const struct question *q, uint32_t code)
@@ -95,7 +113,8 @@ static int escaped_text(const struct question *q, uint32_t code)
     return gives(0);
 }
 
-/* `?` for each byte, and the runs alone: only `/` in path mode stands against them. */
+/* `?` for each byte, and the runs alone: only `/` in path mode stands against `?`
+ * and one star. */
 static int wildcards_alone(const struct question *q, uint32_t code)
 {
     uint32_t free = !path_mode(q) || !memchr(q->second.at, '/', q->second.len);
@@ -112,8 +131,8 @@ static int wildcards_alone(const struct question *q, uint32_t code)
     gives(free);
     add_text(&changed.first, "*");
     gives(1);
-    add_text(&changed.first, "*");
-    return gives(free);
+    add_times(&changed.first, "*", 1 + below(20));
+    return gives(1);
 }
 
 /* The pattern behind a `/` as the only line: the attribute question must answer
@@ -142,13 +161,14 @@ struct law match_laws[] = {
     { "`/` before both", slash_before_both, 0 },
     { "`/` before the pattern alone", slash_before_pattern, 0 },
     { "a literal before both", literal_before_both, 0 },
-    { "`**/` before the pattern", crossing_before, 0 },
+    { "a crossing run before the pattern", crossing_before, 0 },
+    { "a longer run", longer_run, 0 },
     { "`*` before the pattern", star_before, 0 },
     { "`*` behind the pattern", star_behind, 0 },
     { "a broken end", broken_behind, 0 },
     { "no `/`: path mode says nothing", no_slash_no_mode, 0 },
     { "the text escaped", escaped_text, 0 },
-    { "`?`, `*`, `**` and `***` alone", wildcards_alone, 0 },
+    { "`?` and runs alone", wildcards_alone, 0 },
     { "the pattern as a line", as_a_line, 0 },
     { NULL, NULL, 0 },
 };

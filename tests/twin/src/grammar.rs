@@ -73,11 +73,11 @@ fn escape(random: &mut Random, pair: &mut Pair) {
     pair.write(&[b'\\', x], &[x]);
 }
 
-/// One to four stars; the text takes a few bytes, at times over a slash.
+/// One to ten stars; the text takes a few bytes, at times over a slash.
 fn run(random: &mut Random, pair: &mut Pair) {
-    let stars = *random.pick(&[1, 1, 1, 2, 2, 3, 4]);
+    let stars = *random.pick(&[1, 1, 1, 2, 2, 3, 4, 10]);
     let taken = some_bytes(random, 30);
-    pair.write(&b"****"[..stars], &taken);
+    pair.write(&b"**********"[..stars], &taken);
 }
 
 fn some_bytes(random: &mut Random, slash: usize) -> Vec<u8> {
@@ -87,8 +87,28 @@ fn some_bytes(random: &mut Random, slash: usize) -> Vec<u8> {
 
 /// What makes a run cross, or nearly.
 fn slashes(random: &mut Random, pair: &mut Pair) {
-    let forms: [&[u8]; 12] =
-        [b"/", b"/", b"**/", b"/**/", b"/**", b"**\\/", b"\\/**", b"\\/**\\/", b"***/", b"/*/", b"[/]**/", b"/**/**/"];
+    let forms: [&[u8]; 20] = [
+        b"/",
+        b"/",
+        b"/",
+        b"**/",
+        b"/**/",
+        b"/**",
+        b"**\\/",
+        b"\\/**",
+        b"\\/**\\/",
+        b"***/",
+        b"/***/",
+        b"/***",
+        b"***\\/",
+        b"\\/***/",
+        b"/**********/",
+        b"/*/",
+        b"[/]**/",
+        b"[/]***/",
+        b"/**/**/",
+        b"/**/***/",
+    ];
     let form = *random.pick(&forms);
     pair.pattern.extend_from_slice(form);
     for &x in form.iter().filter(|&&x| x == b'/' || x == b'*') {

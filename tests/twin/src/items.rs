@@ -44,9 +44,9 @@ fn read_item(pattern: &[u8], at: usize) -> Option<(Item, usize)> {
 fn read_run(pattern: &[u8], at: usize) -> (Item, usize) {
     let stars = pattern[at..].iter().take_while(|&&x| x == b'*').count();
     let after = &pattern[at + stars..];
-    // "is exactly two stars, starts the pattern or follows a byte `/`, and is
-    // followed by the end, `/` or `\/`"
-    let crosses = stars == 2
+    // "starts the pattern or follows a byte `/`, and is followed by the end, `/`
+    // or `\/`"; of the stars, 02's R-2: "any run of two or more as it treats two"
+    let crosses = stars >= 2
         && (at == 0 || pattern[at - 1] == b'/')
         && (after.is_empty() || after.starts_with(b"/") || after.starts_with(b"\\/"));
     // "A crossing run followed by an unescaped `/`"

@@ -42,4 +42,6 @@ pub mod growth;
 #[cfg(feature = "fidshore")]
 pub mod hostile;
 #[cfg(feature = "fidshore")]
+pub mod long_runs;
+#[cfg(feature = "fidshore")]
 pub mod rows;

@@ -1,5 +1,5 @@
-//! Document 01's frames P1 to P12 and the rows of document 001's part 1, in the
-//! four modes.
+//! The frames P1 to P13, the rows on long runs and those of document 001's part
+//! 1, in the four modes.
 use crate::check::Check;
 use crate::tables;
 

@@ -5,7 +5,7 @@ use twin::check::{Check, Count};
 use twin::exhaustive::Extent;
 use twin::program::{self, Words};
 use twin::random::Random;
-use twin::{boundary, crash, exhaustive, grammar, hostile, rows};
+use twin::{boundary, crash, exhaustive, grammar, hostile, long_runs, rows};
 
 fn main() {
     let words = Words::read("differential [random cases] [seed] [quick|full]");
@@ -29,6 +29,8 @@ fn parts(cases: u64, seed: u64, extent: Extent) -> Vec<Count> {
     counts.push(check.part("random, from the grammar"));
     boundary::run(&mut check);
     counts.push(check.part("boundaries"));
+    long_runs::run(&mut check);
+    counts.push(check.part("long runs"));
     let large = if extent == Extent::Quick { 150 } else { 1500 };
     hostile::run(&mut check, &mut random, cases / 2, large);
     counts.push(check.part("hostile"));

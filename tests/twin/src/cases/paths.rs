@@ -69,25 +69,30 @@ pub fn pattern(random: &mut Random, below_base: &[Vec<u8>]) -> Vec<u8> {
     pattern
 }
 
-/// The components joined; some give way to `**`.
+/// The components joined; some give way to a run that crosses.
 fn anchored(random: &mut Random, words: &[Vec<u8>]) -> Vec<u8> {
     let mut parts: Words = Vec::new();
     for word in words {
-        let crossed = parts.last().is_some_and(|last| last == b"**");
+        let crossed = parts.last().is_some_and(|last| last.starts_with(b"**") && last.ends_with(b"**"));
         match random.below(10) {
-            0..=1 if !crossed => parts.push(b"**".to_vec()),
-            0..=1 => {} // the `**` before takes this one too
-            2 => parts.extend([b"**".to_vec(), component_pattern(random, word)]),
+            0..=1 if !crossed => parts.push(crossing(random)),
+            0..=1 => {} // the run before takes this one too
+            2 => parts.extend([crossing(random), component_pattern(random, word)]),
             _ => parts.push(component_pattern(random, word)),
         }
     }
-    let front: &[u8] = match random.below(10) {
-        0..=4 => b"/",
-        5 => b"**/",
-        6 if words.len() == 1 => b"//",
-        _ => b"",
+    let front = match random.below(10) {
+        0..=4 => b"/".to_vec(),
+        5 => [&crossing(random)[..], b"/"].concat(),
+        6 if words.len() == 1 => b"//".to_vec(),
+        _ => Vec::new(),
     };
-    [front, &parts.join(&b"/"[..])].concat()
+    [front, parts.join(&b"/"[..])].concat()
+}
+
+/// Two stars or, as often, more.
+fn crossing(random: &mut Random) -> Vec<u8> {
+    vec![b'*'; *random.pick(&[2, 2, 2, 3, 4, 10])]
 }
 
 /// One component as a pattern that takes it, or nearly.
@@ -104,7 +109,7 @@ fn component_pattern(random: &mut Random, word: &[u8]) -> Vec<u8> {
         14 => [b"[!b]", rest].concat(),
         15 => [b"[[:alpha:]]", rest].concat(),
         16 => [&b"[A-Z"[..], &[*first], b"]*"].concat(),
-        17 => [b"**", rest].concat(),
+        17 => [&crossing(random)[..], rest].concat(),
         18 => [&[*first], &b"***"[..]].concat(),
         19 => word.to_ascii_uppercase(),
         20 => word.to_ascii_lowercase(),

@@ -1,0 +1,48 @@
+//! Runs of one star, two, three, four and ten beside all that may decide whether
+//! they cross: document 02's R-2, "any run of two or more as it treats two". Other
+//! sets have runs of up to nine stars, but few of them beside a class or a `\/`.
+use crate::check::Check;
+use crate::fence::Fence;
+use crate::words::words;
+
+const RUNS: [&str; 5] = ["*", "**", "***", "****", "**********"];
+/// Nothing, so that the run starts the pattern; a literal, `/`, `\/`, `[/]`, `?`;
+/// and bytes that look like one of these.
+const BEFORE: [&str; 13] = ["", "a", "/", "a/", "\\/", "a\\/", "[/]", "a[/]", "?", "/?", "\\*", "[*/]", "/\\\\"];
+/// The same after the run; at the end, and with more behind.
+const AFTER: [&str; 13] = ["", "b", "/", "/b", "\\/", "\\/b", "[/]", "[/]b", "?", "?/b", "\\b", "\\", "//"];
+
+pub fn run(check: &mut Check) {
+    let texts = texts();
+    for before in BEFORE {
+        for stars in RUNS {
+            for after in AFTER {
+                check.pattern([before, stars, after].concat().as_bytes(), &texts);
+            }
+        }
+    }
+    for pair in pairs_of_runs() {
+        check.pattern(pair.as_bytes(), &texts);
+    }
+}
+
+/// Two runs, each of any of the lengths, with something between them.
+fn pairs_of_runs() -> Vec<String> {
+    let mut pairs = Vec::new();
+    for first in RUNS {
+        for between in ["/", "\\/", "[/]", "?", "a", "/a/", "\\*"] {
+            for second in RUNS {
+                pairs.extend(["", "/b"].map(|after| ["a/", first, between, second, after].concat()));
+            }
+        }
+    }
+    pairs
+}
+
+/// With no slash, one and several; some with the star that `\*` takes.
+fn texts() -> Vec<Fence> {
+    let mut texts = Vec::new();
+    words(b"ab/", 0, 5, |word| texts.push(Fence::holding(word)));
+    words(b"*/b", 3, 4, |word| texts.push(Fence::holding(word)));
+    texts
+}
