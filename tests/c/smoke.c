@@ -1,8 +1,8 @@
 /* The archive from C: the frames P1 to P13 and the rows on long runs in the four
- * modes, the rows of the two questions that C can ask, the examples of the header, each refusal
- * that C can reach, on both sides of its limits, and for every argument no
- * bytes and the most. Prints one line; status 1 if any answer differs or a row
- * cannot be read.
+ * modes, the rows of the two questions that C can ask, the examples of the
+ * header, each refusal that C can reach, on both sides of its limits, and for
+ * every argument no bytes and the most. Prints one line; status 1 if any answer
+ * differs or a row cannot be read.
  *
  * usage: smoke MATCHES IGNORES ATTRIBUTES
  *

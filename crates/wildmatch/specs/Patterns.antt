@@ -45,7 +45,7 @@ componentEnds (x ∷ p) = eqb x 47 || eqb x 92 && startsSlash p
 unfoldable pub crosses : Bool → ℕ → List ℕ → Bool
 crosses after n p = after && (leb 2 n && componentEnds p)
 
--- how far a run of n stars reaches, with p after it
+-- how far a run of n stars reaches, with p after it; apart is "A crossing run followed by an unescaped `/`"
 unfoldable pub reachOf : Bool → ℕ → List ℕ → Reach
 reachOf after n p = cond (crosses after n p) (cond (startsSlash p) crossing-slash crossing) within
 

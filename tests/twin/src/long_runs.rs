@@ -1,6 +1,6 @@
 //! Runs of one star, two, three, four and ten beside all that may decide whether
-//! they cross: document 02's R-2, "any run of two or more as it treats two". Other
-//! sets have runs of up to nine stars, but few of them beside a class or a `\/`.
+//! they cross: document 02's R-2, "any run of two or more as it treats two". The
+//! exhaustive sets have runs of up to nine stars, but few beside a class or `\/`.
 use crate::check::Check;
 use crate::fence::Fence;
 use crate::words::words;
@@ -8,9 +8,10 @@ use crate::words::words;
 const RUNS: [&str; 5] = ["*", "**", "***", "****", "**********"];
 /// Nothing, so that the run starts the pattern; a literal, `/`, `\/`, `[/]`, `?`;
 /// and bytes that look like one of these.
-const BEFORE: [&str; 13] = ["", "a", "/", "a/", "\\/", "a\\/", "[/]", "a[/]", "?", "/?", "\\*", "[*/]", "/\\\\"];
+const BEFORE: [&str; 14] =
+    ["", "a", "/", "a/", "\\/", "a\\/", "[/]", "a[/]", "[a/]", "?", "/?", "\\*", "[*/]", "/\\\\"];
 /// The same after the run; at the end, and with more behind.
-const AFTER: [&str; 13] = ["", "b", "/", "/b", "\\/", "\\/b", "[/]", "[/]b", "?", "?/b", "\\b", "\\", "//"];
+const AFTER: [&str; 14] = ["", "b", "/", "/b", "\\/", "\\/b", "[/]", "[/]b", "[/b]", "?", "?/b", "\\b", "\\", "//"];
 
 pub fn run(check: &mut Check) {
     let texts = texts();
