@@ -22,8 +22,8 @@ pub fn run(check: &mut Check) {
             }
         }
     }
-    for pair in pairs_of_runs() {
-        check.pattern(pair.as_bytes(), &texts);
+    for pattern in pairs_of_runs().iter().chain(&long_to_the_limit()) {
+        check.pattern(pattern.as_bytes(), &texts);
     }
 }
 
@@ -38,6 +38,13 @@ fn pairs_of_runs() -> Vec<String> {
         }
     }
     pairs
+}
+
+/// Runs that a count in a byte, or up to some number, would get wrong; the last
+/// fill the pattern.
+fn long_to_the_limit() -> Vec<String> {
+    let runs = [11, 64, 255, 256, 257, 258, 2044].map(|stars| "*".repeat(stars));
+    runs.iter().flat_map(|run| ["a/", "", "a"].map(|before| [before, run, "/b"].concat())).collect()
 }
 
 /// With no slash, one and several; some with the star that `\*` takes.
