@@ -30,7 +30,7 @@ struct speaking { const char *form; uint32_t code; };
 static const struct speaking speaking[] = {
     { "* @", 1 }, { "* -@", 2 }, { "* @=v", 3 }, { "* @=", 3 }, { "* !@", 4 }, { "* @ -@", 2 }, { "* -@ @", 1 }, { "* @ @=v", 3 },
     { "* @=v !@", 4 }, { "* !@=v", 4 }, { "* !@=v x -@=v", 2 }, { " \t* \r @\t\r ", 1 }, { "** -@", 2 }, { "/** @", 1 },
-    { "**/* !@", 4 }, { "?* @=v=w", 3 }, { "* @x -@ x@", 2 }, { "* @=!@", 3 }, { "* @=@", 3 },
+    { "**/* !@", 4 }, { "/*** -@", 2 }, { "***/* @", 1 }, { "?* @=v=w", 3 }, { "* @x -@ x@", 2 }, { "* @=!@", 3 }, { "* @=@", 3 },
 };
 
 /* Every path is taken and the name is mentioned: the last mention decides. */

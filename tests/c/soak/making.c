@@ -77,7 +77,7 @@ static void add_likeness(struct buffer *line, const uint8_t *at, size_t len)
 /* A pattern for the path or for one of its parents. */
 static void add_pattern(struct buffer *line, const struct buffer *path)
 {
-    static const char *const fronts[] = { "", "", "/", "**/", "***/", "*", "**/*/", "a/**/", "a/****/" };
+    static const char *const fronts[] = { "", "", "/", "**/", "***/", "***\\/", "*", "**/*/", "a/**/", "a/****/", "a/**\\/" };
     static const char *const backs[] = { "", "", "", "", "/", "*", "/**", "/***", " ", "\\", "[", "\t" };
     size_t parent = last_slash(path), start = chance(50) && parent > 0 ? parent + 1 : 0;
     size_t end = chance(30) && parent > start ? parent : path->len;
