@@ -82,7 +82,7 @@ extern "C" {
 
 /* Does the pattern take the whole text?
  *
- * Flags: FIDSHORE_PATH_MODE (wildcards stop at `/`, two or more `*` may cross it),
+ * Flags: FIDSHORE_PATH_MODE (wildcards stop at `/`, `**` or more may cross it),
  *        FIDSHORE_FOLD (ASCII letters match in either case).
  * Codes: FIDSHORE_NO_MATCH (also for a broken pattern, as `[a-z`),
  *        FIDSHORE_MATCH; 16 plus refusal 7, 8 or 9.

@@ -40,12 +40,13 @@ unfoldable pub componentEnds : List ℕ → Bool
 componentEnds [] = true
 componentEnds (x ∷ p) = eqb x 47 || eqb x 92 && startsSlash p
 
--- "starts the pattern or follows a byte `/`, and is followed by the end, `/` or `\/`. Then it crosses": not one star, but "any run of two
--- or more" (document 02, R-2). `after`: the run starts the pattern, or follows a byte `/`; n: how many stars; p: what follows them
+-- "starts the pattern or follows a byte `/`, and is followed by the end, `/` or `\/`. Then it crosses": not one star, but
+-- "any run of two or more" (document 02, R-2).
+-- `after`: the run starts the pattern, or follows a byte `/`; n: how many stars; p: what follows them
 unfoldable pub crosses : Bool → ℕ → List ℕ → Bool
 crosses after n p = after && (leb 2 n && componentEnds p)
 
--- how far a run of n stars reaches, with p after it; apart is "A crossing run followed by an unescaped `/`"
+-- how far a run of n stars reaches, with p after it; a case of its own is "A crossing run followed by an unescaped `/`"
 unfoldable pub reachOf : Bool → ℕ → List ℕ → Reach
 reachOf after n p = cond (crosses after n p) (cond (startsSlash p) crossing-slash crossing) within
 

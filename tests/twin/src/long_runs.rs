@@ -1,6 +1,7 @@
 //! Runs of one star, two, three, four and ten beside all that may decide whether
 //! they cross: document 02's R-2, "any run of two or more as it treats two". The
 //! exhaustive sets have runs of up to nine stars, but few beside a class or `\/`.
+//! Then longer runs, up to the pattern's limit.
 use crate::check::Check;
 use crate::fence::Fence;
 use crate::words::words;
@@ -40,8 +41,8 @@ fn pairs_of_runs() -> Vec<String> {
     pairs
 }
 
-/// Runs that a count in a byte, or up to some number, would get wrong; the last
-/// fill the pattern.
+/// Runs that a count in a byte, or up to some number, would get wrong; the
+/// longest fills the pattern.
 fn long_to_the_limit() -> Vec<String> {
     let runs = [11, 64, 255, 256, 257, 258, 2044].map(|stars| "*".repeat(stars));
     runs.iter().flat_map(|run| ["a/", "", "a"].map(|before| [before, run, "/b"].concat())).collect()
