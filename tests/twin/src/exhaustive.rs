@@ -29,21 +29,22 @@ pub fn run(check: &mut Check, extent: Extent) {
     literals(check);
 }
 
-fn texts(letters: &[u8], most: usize) -> Vec<Fence> {
+/// Every text over these letters that is from `least` to `most` long.
+pub fn texts(letters: &[u8], least: usize, most: usize) -> Vec<Fence> {
     let mut texts = Vec::new();
-    words(letters, 0, most, |word| texts.push(Fence::holding(word)));
+    words(letters, least, most, |word| texts.push(Fence::holding(word)));
     texts
 }
 
 /// All items at once, the patterns short.
 fn items(check: &mut Check, extent: Extent) {
-    let texts = texts(b"a/-", extent.pick(3, 4));
+    let texts = texts(b"a/-", 0, extent.pick(3, 4));
     words(b"a/*?[]\\!-", 0, extent.pick(4, 5), |pattern| check.pattern(pattern, &texts));
 }
 
 /// Runs and slashes alone, the patterns longer.
 fn runs(check: &mut Check, extent: Extent) {
-    let texts = texts(b"a/", extent.pick(5, 6));
+    let texts = texts(b"a/", 0, extent.pick(5, 6));
     words(b"a/*", 5, extent.pick(7, 9), |pattern| check.pattern(pattern, &texts));
     words(b"/*\\?", 5, extent.pick(5, 7), |pattern| check.pattern(pattern, &texts));
 }

@@ -3,8 +3,7 @@
 //! exhaustive sets have runs of up to nine stars, but few beside a class or `\/`.
 //! Then longer runs, up to the pattern's limit.
 use crate::check::Check;
-use crate::fence::Fence;
-use crate::words::words;
+use crate::exhaustive::texts;
 
 const RUNS: [&str; 5] = ["*", "**", "***", "****", "**********"];
 /// Nothing, so that the run starts the pattern; a literal, `/`, `\/`, `[/]`, `?`;
@@ -15,7 +14,8 @@ const BEFORE: [&str; 14] =
 const AFTER: [&str; 14] = ["", "b", "/", "/b", "\\/", "\\/b", "[/]", "[/]b", "[/b]", "?", "?/b", "\\b", "\\", "//"];
 
 pub fn run(check: &mut Check) {
-    let texts = texts();
+    // With no slash, one and several; some with the star that `\*` takes.
+    let texts: Vec<_> = texts(b"ab/", 0, 5).into_iter().chain(texts(b"*/b", 3, 4)).collect();
     for before in BEFORE {
         for stars in RUNS {
             for after in AFTER {
@@ -46,12 +46,4 @@ fn pairs_of_runs() -> Vec<String> {
 fn long_to_the_limit() -> Vec<String> {
     let runs = [11, 64, 255, 256, 257, 258, 2044].map(|stars| "*".repeat(stars));
     runs.iter().flat_map(|run| ["a/", "", "a"].map(|before| [before, run, "/b"].concat())).collect()
-}
-
-/// With no slash, one and several; some with the star that `\*` takes.
-fn texts() -> Vec<Fence> {
-    let mut texts = Vec::new();
-    words(b"ab/", 0, 5, |word| texts.push(Fence::holding(word)));
-    words(b"*/b", 3, 4, |word| texts.push(Fence::holding(word)));
-    texts
 }
