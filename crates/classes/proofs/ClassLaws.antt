@@ -94,7 +94,7 @@ form-plain fold f x z e h = rw e h
 
 -- The test of a byte.
 
-read-start : (q : List ℕ) → readClass q ≡ classOf (notSign q) (startOf q) (members (drop (startOf q) q) 0 true)
+pub read-start : (q : List ℕ) → readClass q ≡ classOf (notSign q) (startOf q) (members (drop (startOf q) q) 0 true)
 unfolding readClass startOf
 read-start q = go (notSign q)
   where

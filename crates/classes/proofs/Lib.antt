@@ -8,3 +8,4 @@ pub mod SizeLaws
 pub mod ScanLaws
 pub mod ClassLaws
 pub mod PlainLaws
+pub mod MeasureLaws

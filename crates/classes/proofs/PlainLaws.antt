@@ -18,7 +18,7 @@ close-step true d u v f h = absurd (omega arith)
 close-step false d u v f h = let e = f (omega arith) in omega arith
 
 -- the next `]` is d bytes nearer after d bytes before it
-close-drop : (d : ℕ) (q : List ℕ) → d ≤ untilClose q → untilClose (drop d q) ≡ untilClose q - d
+pub close-drop : (d : ℕ) (q : List ℕ) → d ≤ untilClose q → untilClose (drop d q) ≡ untilClose q - d
 unfolding untilClose
 close-drop zero q h = omega arith
 close-drop (suc d) [] h = absurd (omega arith)
@@ -83,7 +83,7 @@ pub plain-within : (q : List ℕ) (i p : ℕ) → PlainTo q i p → i < p → p 
 unfolding PlainTo
 plain-within q i p s h = let f = name-after (drop (p - 1) q) (s (p - 1) (omega arith) (omega arith)) in omega (arith, length-drop (p - 1) q)
 
-next-name : (first : Bool) (q : List ℕ) → nextMember first (91 ∷ 58 ∷ q) ≡ nameAt q
+pub next-name : (first : Bool) (q : List ℕ) → nextMember first (91 ∷ 58 ∷ q) ≡ nameAt q
 unfolding nextMember bracketAt
 next-name first q = refl
 

@@ -18,11 +18,11 @@ use Rattle.classes.specs.declared.class.Tested.{Tested}
 use Rattle.classes.specs.declared.class.Tested.the-variants.{Bad, Read}
 
 -- n bytes more, before members
-abbrev longerBy : ℕ → Option Members → Option Members
+abbrev pub longerBy : ℕ → Option Members → Option Members
 longerBy n none = none
 longerBy n (some r) = some (record { list = r .list; size = n + r .size })
 
-longer-zero : (o : Option Members) → o ≡ longerBy 0 o
+pub longer-zero : (o : Option Members) → o ≡ longerBy 0 o
 longer-zero none = refl
 longer-zero (some r) = rw (zero-add (r .size)) refl
 
@@ -38,7 +38,7 @@ members-drop (x ∷ q) zero first = longer-zero _
 members-drop (x ∷ q) (suc k) first = ap longer (members-drop q k first) ∙ longer-suc k (members (drop k q) 0 first)
 
 -- the member b of n bytes, before members
-unfoldable withMember : Member → ℕ → Option Members → Option Members
+unfoldable pub withMember : Member → ℕ → Option Members → Option Members
 withMember b n none = none
 withMember b n (some r) = some (record { list = b ∷ r .list; size = n + r .size })
 
@@ -47,7 +47,7 @@ unfolding withMember
 with-longer b n none = refl
 with-longer b n (some r) = rw (suc-add n (r .size)) refl
 
-members-member : (q : List ℕ) (first : Bool) (b : Member) (n : ℕ) → nextMember first q ≡ member b n → 1 ≤ n → members q 0 first ≡ withMember b n (members (drop n q) 0 false)
+pub members-member : (q : List ℕ) (first : Bool) (b : Member) (n : ℕ) → nextMember first q ≡ member b n → 1 ≤ n → members q 0 first ≡ withMember b n (members (drop n q) 0 false)
 unfolding members nextMember
 members-member [] first b n e h = let z : _≡_ {A = ℕ} 0 1 = cc in absurd (omega arith)
 members-member (x ∷ q) first b zero e h = absurd (omega arith)
@@ -58,7 +58,7 @@ unfolding members nextMember
 members-close [] first e = let z : _≡_ {A = ℕ} 0 1 = cc in absurd (omega arith)
 members-close (x ∷ q) first e = ap (λ (s : Step). membersAfter s (λ n. members q n false)) e
 
-members-broken : (q : List ℕ) (first : Bool) → nextMember first q ≡ broken → members q 0 first ≡ none
+pub members-broken : (q : List ℕ) (first : Bool) → nextMember first q ≡ broken → members q 0 first ≡ none
 unfolding members
 members-broken [] first e = refl
 members-broken (x ∷ q) first e = ap (λ (s : Step). membersAfter s (λ n. members q n false)) e

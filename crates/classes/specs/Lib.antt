@@ -5,3 +5,4 @@ pub mod Members
 -- Inner definitions, which only the contracts of private functions cite:
 pub mod Tables
 pub mod Scan
+pub mod Sizes

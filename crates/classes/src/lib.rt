@@ -4,3 +4,4 @@ pub mod class;
 pub mod letters;
 mod members;
 mod names;
+mod size;

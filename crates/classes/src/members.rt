@@ -43,7 +43,7 @@ fn read_single(b: u8, n: usize, q: &[u8]) -> Next
 }
 
 // How many bytes stand before the next `]`.
-fn until_close(q: &[u8]) -> usize
+pub fn until_close(q: &[u8]) -> usize
     ensures { λ r. ⌜ r ≡ untilClose (now (q .entry)) ⌝ }
 {
     let mut i = 0;

@@ -7,7 +7,7 @@ use questions::ignore::ignore_code;
 use wildmatch::answer::code_of;
 use wildmatch::answer::wildmatch;
 
-// The matcher: 0 or 1, or 16 plus a refusal's number. Flags: 1 = path mode, 2 = fold case.
+// The matcher: 0 no match, 1 match, 2 a broken pattern, or 16 plus a refusal's number. Flags: 1 = path mode, 2 = fold case.
 #[no_mangle]
 pub extern "C" fn fidshore_match(pattern: &[u8], text: &[u8], flags: u64) -> u32
     ensures { λ r. ⌜ MatchCode (now (pattern .entry)) (now (text .entry)) flags r ⌝ }

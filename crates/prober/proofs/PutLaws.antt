@@ -2,13 +2,15 @@
 use Prim.Native.Nat.{ℕ, _≤_, _<_}
 use native.Mathlib.Nat.{zero-add}
 use native.Mathlib.Omega.{arith}
-use mathlib.Core.Path.{_≡_, sym, ap, subst, _∙_}
+use mathlib.Core.Path.{_≡_, refl, sym, ap, subst, _∙_}
 use mathlib.Core.Bool.{Bool, cond}
-use mathlib.Core.List.{List, [], _++_}
+use mathlib.Core.List.{List, [], _∷_, _++_}
+use mathlib.Core.Option.{none, some}
 use lib.ListN.{length, drop}
 use lib.Seq.{sets, sets-eq}
 use borrow.Author.Tests.{le-leb, lt-leb}
-use Rattle.prober.specs.Probes.{put}
+use Rattle.wildmatch.specs.Patterns.{brokenAt}
+use Rattle.prober.specs.Probes.{put, places, BrokenProbed}
 
 abbrev picked : List ℕ → List ℕ → Bool → List ℕ
 picked values held b = cond b (values ++ drop (length values) held) held
@@ -27,3 +29,12 @@ put-stores values held fits =
     sets-eq values held 0 (subst (λ (k : ℕ). k ≤ length held) (sym (zero-add (length values))) fits)
     ∙ ap (λ (k : ℕ). values ++ drop k held) (zero-add (length values))
     ∙ sym (ap (picked values held) (le-leb (length values) (length held) fits))
+
+-- where a pattern is not broken, and where it is
+pub no-place : (pattern held : List ℕ) → brokenAt pattern ≡ none → BrokenProbed pattern 0 held held
+unfolding places
+no-place pattern held e = record { numbered = rw e refl; told = rw e (put-none held) }
+
+pub one-place : (pattern held after : List ℕ) (n : ℕ) → brokenAt pattern ≡ some n → after ≡ put (n ∷ []) held → BrokenProbed pattern 1 held after
+unfolding places
+one-place pattern held after n e h = record { numbered = rw e refl; told = rw e h }

@@ -1,8 +1,9 @@
-// Both questions for the outside tests: the complete answer's number as the result, its values in a lent list.
+// The matcher and both questions for the outside tests: the complete answer's number as the result, its values in a lent list.
 ghost use mathlib.Core.Path.{_≡_};
-ghost use mathlib.Core.List.{_∷_, _++_};
+ghost use mathlib.Core.List.{[], _∷_, _++_};
 ghost use Rattle.questions.specs.Complete.{placeValues, stateValues, completeIgnore, completeAttribute};
-ghost use Rattle.prober.specs.Probes.{put, IgnoreProbed, AttributeProbed};
+ghost use Rattle.wildmatch.specs.Answers.{valuesOf};
+ghost use Rattle.prober.specs.Probes.{put, MatchProbed, BrokenProbed, IgnoreProbed, AttributeProbed};
 use attributelines::Span;
 use attributelines::State;
 use questions::AttributeAnswer;
@@ -14,6 +15,33 @@ use questions::attribute::attribute_code;
 use questions::ignore::ignore;
 use questions::ignore::ignore_code;
 use rulefiles::Place;
+use wildmatch::answer::Answer;
+use wildmatch::answer::code_of;
+use wildmatch::answer::wildmatch;
+use wildmatch::broken::Reading;
+use wildmatch::broken::broken_at;
+
+// Puts a place in a pattern into the first entry, if there is one.
+fn put_broken(place: usize, out: &mut [usize])
+    ensures { λ _. ⌜ now (out .exit) ≡ put (place ∷ []) (now (out .entry)) ⌝ }
+{
+    if out.len() < 1 {
+        return;
+    }
+    out[0] = place;
+}
+
+// Puts the value of an answer of the matcher, if it has one.
+fn put_match(answer: Answer, out: &mut [usize])
+    ensures { λ _. ⌜ now (out .exit) ≡ put (valuesOf answer) (now (out .entry)) ⌝ }
+{
+    match answer {
+        Answer::Unmatched => {}
+        Answer::Matched => {}
+        Answer::Broken(place) => put_broken(place, out),
+        Answer::Refused(_) => {}
+    }
+}
 
 // Puts the entry's length, the file and the line into the first three entries, if there are so many.
 fn put_decided(decided: Decided, out: &mut [usize])
@@ -93,6 +121,31 @@ fn put_attribute(answer: AttributeAnswer, out: &mut [usize])
         AttributeAnswer::Nothing => {}
         AttributeAnswer::Said(spoken) => put_spoken(spoken, out),
         AttributeAnswer::Refused(_) => {}
+    }
+}
+
+// The matcher. Where the pattern is broken, the first entry of `out` becomes the place where its first broken item begins; else, and where
+// it has none, it is left as it was.
+#[no_mangle]
+pub extern "C" fn prober_match(pattern: &[u8], text: &[u8], flags: u64, out: &mut [usize]) -> u32
+    ensures { λ r. ⌜ MatchProbed (now (pattern .entry)) (now (text .entry)) flags r (now (out .entry)) (now (out .exit)) ⌝ }
+{
+    let answer = wildmatch(pattern, text, flags);
+    put_match(answer, out);
+    code_of(answer)
+}
+
+// Where any bytes as a pattern are broken: how many places, none or one, and that place as for the matcher.
+#[no_mangle]
+pub extern "C" fn prober_broken(pattern: &[u8], out: &mut [usize]) -> u32
+    ensures { λ r. ⌜ BrokenProbed (now (pattern .entry)) r (now (out .entry)) (now (out .exit)) ⌝ }
+{
+    match broken_at(pattern) {
+        Reading::Unbroken => 0,
+        Reading::Broken(place) => {
+            put_broken(place, out);
+            1
+        }
     }
 }
 

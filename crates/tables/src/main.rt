@@ -34,7 +34,7 @@ fn run_named(table: Table, name: &[u8], before: Tally) -> Tally {
 
 fn main() {
     let none = tally::nothing();
-    let rows = run_named(Table::Matches, b"document-001.tsv", none);
+    let rows = run_named(Table::Matches001, b"document-001.tsv", none);
     let frames = run_named(Table::Matches, b"document-01.tsv", rows);
     let ignores = run_named(Table::Questions, b"ignore.tsv", frames);
     let all = run_named(Table::Questions, b"attributes.tsv", ignores);

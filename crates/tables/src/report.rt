@@ -26,15 +26,15 @@ fn mode(flags: u64) {
     }
 }
 
-// An answer of the matcher other than the row expects; 16 and above is a refusal's code.
-pub fn difference(label: &[u8], flags: u64, expected: u64, got: u64) {
+// An answer of the matcher other than the row expects.
+pub fn difference(label: &[u8], flags: u64, expected: &[u8], got: &[u8]) {
     say(label);
     say(b" ");
     mode(flags);
     say(b": expected ");
-    number(expected);
+    say(expected);
     say(b", got ");
-    number(got);
+    say(got);
     say(b"\n");
 }
 

@@ -5,6 +5,9 @@ ghost use Prim.Native.Nat.{_≤_};
 ghost use Rattle.tables.specs.Results.{Answers};
 use crate::fields;
 use crate::report;
+use crate::written;
+use wildmatch::answer::Answer;
+use wildmatch::answer::wildmatch;
 
 // What a row came to.
 pub enum Outcome {
@@ -28,33 +31,76 @@ fn are_digits(field: &[u8]) -> bool
     is_digit(field[0]) && is_digit(field[1]) && is_digit(field[2]) && is_digit(field[3])
 }
 
-fn value(digit: u8) -> u64 {
-    if digit == b'1' { 1 } else { 0 }
-}
-
-fn answer(pattern: &[u8], text: &[u8], flags: u64) -> u64 {
-    wildmatch::answer::code_of(wildmatch::answer::wildmatch(pattern, text, flags)) as u64
-}
-
-// Whether the matcher answers other than expected in one mode; says so if it does.
-fn differs(label: &[u8], pattern: &[u8], text: &[u8], flags: u64, expected: u64) -> bool {
-    let got = answer(pattern, text, flags);
-    if got == expected {
+// Whether a field has the form of expected answers: a digit for each mode, or the words for a broken pattern, which hold in all modes.
+fn is_expectation(field: &[u8]) -> bool {
+    if field.len() == 4 {
+        return are_digits(field);
+    }
+    if field.len() < 8 {
         return false;
     }
-    report::difference(label, flags, expected, got);
+    check::same(&field[0..7], b"broken ")
+}
+
+// The matcher's answer; where `lenient`, broken is read as no match.
+fn answer(pattern: &[u8], text: &[u8], flags: u64, lenient: bool) -> Answer {
+    let given = wildmatch(pattern, text, flags);
+    match given {
+        Answer::Unmatched => Answer::Unmatched,
+        Answer::Matched => Answer::Matched,
+        Answer::Broken(place) => if lenient {
+            Answer::Unmatched
+        } else {
+            Answer::Broken(place)
+        },
+        Answer::Refused(n) => Answer::Refused(n),
+    }
+}
+
+// Whether an answer, as it is written, is the one expected in the i-th mode.
+fn is_expected(expected: &[u8], i: usize, got: &[u8]) -> bool {
+    if expected.len() != 4 {
+        return check::same(expected, got);
+    }
+    if i >= 4 {
+        return false;
+    }
+    check::same(&expected[i..i + 1], got)
+}
+
+// Whether the matcher answers other than expected in the i-th mode; says so if it does.
+fn differs(
+    label: &[u8],
+    pattern: &[u8],
+    text: &[u8],
+    i: usize,
+    expected: &[u8],
+    lenient: bool,
+) -> bool {
+    if i >= 4 {
+        return true;
+    }
+    let flags = FLAGS[i];
+    let mut out = [0u8; 40];
+    let n = written::matched(answer(pattern, text, flags, lenient), &mut out);
+    if n > 40 {
+        return true;
+    }
+    if is_expected(expected, i, &out[0..n]) {
+        return false;
+    }
+    report::difference(label, flags, expected, &out[0..n]);
     true
 }
 
 // How many of the four answers differ.
-fn count_differing(label: &[u8], pattern: &[u8], text: &[u8], expected: &[u8]) -> u64
-    requires { ⌜ length (now expected) ≡ 4 ⌝ }
+fn count_differing(label: &[u8], pattern: &[u8], text: &[u8], expected: &[u8], lenient: bool) -> u64
     ensures { λ r. ⌜ r ≤ 4 ⌝ }
 {
     let mut n: u64 = 0;
     let mut i = 0;
     while i < 4 {
-        if differs(label, pattern, text, FLAGS[i], value(expected[i])) {
+        if differs(label, pattern, text, i, expected, lenient) {
             n += 1;
         }
         i += 1;
@@ -70,8 +116,8 @@ fn run_decoded(
     text: &[u8],
     t: usize,
     expected: &[u8],
+    lenient: bool,
 ) -> Outcome
-    requires { ⌜ length (now expected) ≡ 4 ⌝ }
     ensures { λ r. ⌜ Answers 4 r ⌝ }
 {
     if p > pattern.len() {
@@ -80,31 +126,28 @@ fn run_decoded(
     if t > text.len() {
         return Outcome::Malformed;
     }
-    let differ = count_differing(label, &pattern[0..p], &text[0..t], expected);
+    let differ = count_differing(label, &pattern[0..p], &text[0..t], expected, lenient);
     Outcome::Ran {
         answers: 4,
         differ: differ,
     }
 }
 
-fn run_fields(label: &[u8], pattern: &[u8], text: &[u8], expected: &[u8]) -> Outcome
+fn run_fields(label: &[u8], pattern: &[u8], text: &[u8], expected: &[u8], lenient: bool) -> Outcome
     ensures { λ r. ⌜ Answers 4 r ⌝ }
 {
-    if expected.len() != 4 {
-        return Outcome::Malformed;
-    }
-    if !are_digits(expected) {
+    if !is_expectation(expected) {
         return Outcome::Malformed;
     }
     let mut pattern_bytes = io::buffer();
     let mut text_bytes = io::buffer();
     let p = fields::decode(pattern, &mut pattern_bytes);
     let t = fields::decode(text, &mut text_bytes);
-    run_decoded(label, &pattern_bytes, p, &text_bytes, t, expected)
+    run_decoded(label, &pattern_bytes, p, &text_bytes, t, expected, lenient)
 }
 
-// Takes a row apart at its first three tabs and runs it.
-pub fn run_row(row: &[u8]) -> Outcome
+// Takes a row apart at its first three tabs and runs it. Where `lenient`, it reads broken as no match.
+pub fn run_row(row: &[u8], lenient: bool) -> Outcome
     ensures { λ r. ⌜ Answers 4 r ⌝ }
 {
     let a = fields::find(row, 0, b'\t');
@@ -119,5 +162,11 @@ pub fn run_row(row: &[u8]) -> Outcome
     if c == row.len() {
         return Outcome::Malformed;
     }
-    run_fields(&row[0..a], &row[a + 1..b], &row[b + 1..c], &row[c + 1..])
+    run_fields(
+        &row[0..a],
+        &row[a + 1..b],
+        &row[b + 1..c],
+        &row[c + 1..],
+        lenient,
+    )
 }

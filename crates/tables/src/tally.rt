@@ -8,8 +8,10 @@ use crate::report;
 use crate::row;
 use crate::row::Outcome;
 
-// What the rows of a file are: pairs for the matcher, or questions.
+// What the rows of a file are: pairs for the matcher, or questions. Document 001 knows no broken patterns: its tables read broken as
+// no match.
 pub enum Table {
+    Matches001,
     Matches,
     Questions,
 }
@@ -103,7 +105,8 @@ fn same_section(a: &[u8], b: &[u8]) -> bool {
 // Runs a row of a table.
 fn run_row(table: Table, sheet: &[u8], row: &[u8]) -> Outcome {
     match table {
-        Table::Matches => row::run_row(row),
+        Table::Matches001 => row::run_row(row, true),
+        Table::Matches => row::run_row(row, false),
         Table::Questions => question::run_row(sheet, row),
     }
 }

@@ -6,6 +6,7 @@ use questions::Decided;
 use questions::IgnoreAnswer;
 use questions::Spoken;
 use rulefiles::Place;
+use wildmatch::answer::Answer;
 
 // Puts bytes at a place of `out`, as many as fit, and answers the place after them.
 fn append(out: &mut [u8], at: usize, s: &[u8]) -> usize
@@ -41,11 +42,30 @@ fn append_place(out: &mut [u8], at: usize, place: Place) -> usize
     append_number(out, after, place.line as u64)
 }
 
+fn broken(place: usize, out: &mut [u8]) -> usize
+    ensures { λ r. ⌜ NoFurther r 0 (now (out .exit)) ⌝ }
+{
+    let at = append(out, 0, b"broken");
+    append_number(out, at, place as u64)
+}
+
 fn refused(n: u8, out: &mut [u8]) -> usize
     ensures { λ r. ⌜ NoFurther r 0 (now (out .exit)) ⌝ }
 {
     let at = append(out, 0, b"refused");
     append_number(out, at, n as u64)
+}
+
+// Puts an answer of the matcher, and says how many bytes it has.
+pub fn matched(answer: Answer, out: &mut [u8]) -> usize
+    ensures { λ r. ⌜ NoFurther r 0 (now (out .exit)) ⌝ }
+{
+    match answer {
+        Answer::Unmatched => append(out, 0, b"0"),
+        Answer::Matched => append(out, 0, b"1"),
+        Answer::Broken(place) => broken(place, out),
+        Answer::Refused(n) => refused(n, out),
+    }
 }
 
 // A verdict, the entry's length, the file and the line.

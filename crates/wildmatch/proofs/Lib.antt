@@ -8,6 +8,7 @@ pub mod OutcomeLaws
 pub mod CrossLaws
 pub mod SegmentLaws
 pub mod MatcherLaws
+pub mod BrokenLaws
 pub mod AnswerLaws
 pub mod SkipLaws
 pub mod WayLaws

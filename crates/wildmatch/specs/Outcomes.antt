@@ -32,6 +32,20 @@ unfoldable pub taken : Mode → List ℕ → ℕ → ℕ
 taken m [] x = 0
 taken m (y ∷ p) x = takenBy m x (readItem false y p)
 
+-- only an item that such a byte begins may be broken: an escape or a class
+unfoldable pub mayBreak : ℕ → Bool
+mayBreak c = eqb c 92 || eqb c 91
+
+-- how many bytes an item is written with; 0: it is broken
+unfoldable pub sizeOf : First → ℕ
+sizeOf broken = 0
+sizeOf (item it n) = n
+
+-- the same of the first item of a pattern
+unfoldable pub firstSize : List ℕ → ℕ
+firstSize [] = 0
+firstSize (x ∷ p) = sizeOf (readItem false x p)
+
 -- whether place i starts the whole pattern or follows a byte `/`; `after` says it of place 0
 unfoldable pub afterAt : Bool → List ℕ → ℕ → Bool
 afterAt after p zero = after

@@ -93,3 +93,26 @@ itemsFrom (x ∷ p) (suc k) after = itemsFrom p k (eqb x 47)
 -- the items of a whole pattern
 abbrev pub items : List ℕ → Option (List Item)
 items p = itemsFrom p 0 true
+
+-- Document 02, R-14: "the place in the pattern of the byte where the first broken item begins". The items are read as above.
+
+-- a place counted from one byte before
+abbrev pub later : Option ℕ → Option ℕ
+later none = none
+later (some place) = some (suc place)
+
+-- the item that begins here is broken, or the place is looked for after its n bytes, of which the first byte is passed already
+abbrev pub brokenAfter : First → (ℕ → Option ℕ) → Option ℕ
+brokenAfter broken rest = some 0
+brokenAfter (item it n) rest = later (rest (pred n))
+
+-- the place, counted from 0, in a pattern of which the first k bytes belong to an item that was read; none: no item is broken.
+-- `after` as for `itemsFrom`
+unfoldable pub brokenFrom : List ℕ → ℕ → Bool → Option ℕ
+brokenFrom [] k after = none
+brokenFrom (x ∷ p) zero after = brokenAfter (readItem after x p) (λ n. brokenFrom p n (eqb x 47))
+brokenFrom (x ∷ p) (suc k) after = later (brokenFrom p k (eqb x 47))
+
+-- the place in a whole pattern
+abbrev pub brokenAt : List ℕ → Option ℕ
+brokenAt p = brokenFrom p 0 true

@@ -2,6 +2,8 @@
 ghost use mathlib.Core.Path.{_≡_};
 ghost use Rattle.wildmatch.specs.Answers.{modeOf, MatchDecided, Answered, codeOf};
 use crate::Mode;
+use crate::broken::Reading;
+use crate::broken::broken_at;
 use crate::matcher::Outcome;
 use crate::matcher::match_items;
 use refusals::flags::flag_one;
@@ -10,10 +12,11 @@ use refusals::flags::flags_high;
 use refusals::holds_zero;
 use refusals::too_long;
 
-// What the matcher answers; a refusal carries its number and nothing else.
+// What the matcher answers: a broken pattern with the place where its first broken item begins; a refusal carries its number and nothing else.
 pub enum Answer {
     Unmatched,
     Matched,
+    Broken(usize),
     Refused(u8),
 }
 
@@ -39,7 +42,8 @@ pub fn matches(pattern: &[u8], text: &[u8], mode: Mode) -> bool
     }
 }
 
-// Whether the pattern matches the text, or the lowest refusal.
+// Whether the pattern matches the text, or where it is broken; or the lowest refusal. A pattern that matches is not broken, so only one
+// that does not is read again.
 pub fn wildmatch(pattern: &[u8], text: &[u8], flags: u64) -> Answer
     ensures { λ r. ⌜ Answered (now (pattern .entry)) (now (text .entry)) flags r ⌝ }
 {
@@ -58,16 +62,20 @@ pub fn wildmatch(pattern: &[u8], text: &[u8], flags: u64) -> Answer
     if matches(pattern, text, mode_of(flags)) {
         return Answer::Matched;
     }
-    Answer::Unmatched
+    match broken_at(pattern) {
+        Reading::Unbroken => Answer::Unmatched,
+        Reading::Broken(place) => Answer::Broken(place),
+    }
 }
 
-// The number that C gets for an answer.
+// The number that C gets for an answer: of a broken pattern without the place.
 pub fn code_of(answer: Answer) -> u32
     ensures { λ r. ⌜ r ≡ codeOf answer ⌝ }
 {
     match answer {
         Answer::Unmatched => 0,
         Answer::Matched => 1,
+        Answer::Broken(_) => 2,
         Answer::Refused(n) => 16 + (n as u32),
     }
 }

@@ -1,5 +1,6 @@
 // The matcher of document 01, "Patterns".
 pub mod answer;
+pub mod broken;
 mod items;
 mod matcher;
 mod runs;

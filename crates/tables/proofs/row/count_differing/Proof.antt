@@ -6,25 +6,13 @@ use Rattle.tables.proofs.row.count_differing.Statement.{statement}
 use Rattle.tables.proofs.row.count_differing.Tie as tie
 
 abbrev Inv-loop : tie.InvT-loop
-Inv-loop label pattern text expected n₀ i₀ n i = (i ≤ 4) × (n ≤ i)
+Inv-loop label pattern text expected lenient n₀ i₀ n i = (i ≤ 4) × (n ≤ i)
 
 abbrev μ-loop : tie.MeasureT-loop
-μ-loop label pattern text expected n₀ i₀ n i = 4 - i
+μ-loop label pattern text expected lenient n₀ i₀ n i = 4 - i
 
 loop-holds : tie.Need-loop-holds Inv-loop μ-loop
 loop-holds c = search needs
-
-mul-differs : tie.Need-mul-differs Inv-loop μ-loop
-mul-differs c = search needs
-
-array-read-differs : tie.Need-array-read-differs Inv-loop μ-loop
-array-read-differs c = search needs
-
-shared-slice-read-value : tie.Need-shared-slice-read-value Inv-loop μ-loop
-shared-slice-read-value c = search needs
-
-value-requires : tie.Need-value-requires Inv-loop μ-loop
-value-requires c κs = search needs
 
 differs-requires : tie.Need-differs-requires Inv-loop μ-loop
 differs-requires c κs = search needs
@@ -51,10 +39,6 @@ count-differing-spec =
     Inv-loop
     μ-loop
     loop-holds
-    mul-differs
-    array-read-differs
-    shared-slice-read-value
-    value-requires
     differs-requires
     add-n
     add-i

@@ -11,6 +11,9 @@ enum-told c = search needs
 enum-told-2 : tie.Need-enum-told-2
 enum-told-2 c = search needs
 
+enum-told-3 : tie.Need-enum-told-3
+enum-told-3 c = search needs
+
 enum-known-answer : tie.Need-enum-known-answer
 enum-known-answer c = search needs
 
@@ -30,7 +33,11 @@ returns-2 c = rw (c .enum-told2 .given .1) refl
 
 returns-3 : tie.Need-returns-3
 unfolding codeOf
-returns-3 c = rw (c .before .answer .given .1) refl
+returns-3 c = rw (c .enum-told3 .given .1) refl
+
+returns-4 : tie.Need-returns-4
+unfolding codeOf
+returns-4 c = rw (c .before .answer .given .1) refl
 
 pub code-of-spec : {M : Type 1} → statement M
 code-of-spec =
@@ -38,9 +45,11 @@ code-of-spec =
     (tie.spec
     enum-told
     enum-told-2
+    enum-told-3
     enum-known-answer
     cast-result
     add-result
     returns
     returns-2
-    returns-3)
+    returns-3
+    returns-4)

@@ -1,0 +1,35 @@
+-- `classes::class::class_size` meets its contract: the sign, if there is one, and the members.
+use mathlib.Core.Logic.{⊎-elim}
+use mathlib.Core.Path.{_≡_}
+use native.Mathlib.Omega.{arith}
+use borrow.Author.Needs.{needs}
+use Rattle.classes.specs.Members.{readClass}
+use Rattle.classes.proofs.ClassLaws.{startOf, start-sign, start-plain, start-within}
+use Rattle.classes.proofs.MeasureLaws.{Measured, class-measured}
+use Rattle.classes.proofs.class.class_size.Statement.{statement}
+use Rattle.classes.proofs.class.class_size.Tie as tie
+
+-- `from`, by both of its ways
+start : (d : tie.Joined1) → d .if1 .from ≡ startOf (d .before .before .before .args .q .now)
+start d =
+    ⊎-elim (λ w. start-sign _ _ _ (d .before .is-negated .ensures) (w .0 .taken) (w .1))
+    (λ w. start-plain _ _ _ (d .before .is-negated .ensures) (w .0 .left) (w .1))
+    (d .if1 .came)
+
+measured : (d : tie.After-members-size)
+    → Measured (d .before .before .before .before .before .before .args .q .now) (d .before .before .before .if1 .from)
+    (d .members-size .result) (readClass (d .before .before .before .before .before .before .args .q .now))
+measured d = class-measured _ _ _ (start (d .before .before .before)) (d .members-size .ensures)
+
+pub class-size-spec : {M : Type 1} → statement M
+class-size-spec =
+    tie.close
+    (tie.spec
+    (λ c κs. search needs)
+    (λ c. let h = start-within _ _ (start (c .before)) in omega arith)
+    (λ c. let h = start-within _ _ (start (c .before)) in omega arith)
+    (λ c. search needs)
+    (λ c κs. search needs)
+    (λ c. let h = measured (c .before) .0 in omega arith)
+    (λ c. let h = measured (c .before) .1 (c .if2 .taken) in omega arith)
+    (λ c. let h = measured (c .before) .2 (c .if2 .left) in omega arith))

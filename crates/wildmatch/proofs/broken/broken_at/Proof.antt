@@ -1,0 +1,86 @@
+-- `wildmatch::broken::broken_at` meets its contract: the place from the i-th byte on, counted from the start, is the pattern's.
+use Prim.Native.Nat.{_≤_, _-_}
+use native.Mathlib.Omega.{arith}
+use lib.ListN.{length}
+use borrow.Author.Needs.{needs}
+use Rattle.wildmatch.proofs.BrokenLaws.{Left, left-all, left-none, left-byte, left-broken, left-item, may-break-from}
+use Rattle.wildmatch.proofs.broken.broken_at.Statement.{statement}
+use Rattle.wildmatch.proofs.broken.broken_at.Tie as tie
+
+abbrev Inv-loop : tie.InvT-loop
+Inv-loop pattern i₀ i = (i ≤ length pattern) × Left pattern i
+
+abbrev μ-loop : tie.MeasureT-loop
+μ-loop pattern i₀ i = length pattern - i
+
+loop-holds : tie.Need-loop-holds Inv-loop μ-loop
+loop-holds c = (search needs, left-all _)
+
+shared-slice-read-may-break : tie.Need-shared-slice-read-may-break Inv-loop μ-loop
+shared-slice-read-may-break c = search needs
+
+may-break-requires : tie.Need-may-break-requires Inv-loop μ-loop
+may-break-requires c κs = search needs
+
+sub-item-size : tie.Need-sub-item-size Inv-loop μ-loop
+sub-item-size c = search needs
+
+part-item-size-start : tie.Need-part-item-size-start Inv-loop μ-loop
+part-item-size-start c = search needs
+
+part-item-size-end : tie.Need-part-item-size-end Inv-loop μ-loop
+part-item-size-end c = search needs
+
+item-size-requires : tie.Need-item-size-requires Inv-loop μ-loop
+item-size-requires c κs = may-break-from (c .before .before .before .before .before .before .before .args .pattern .now) _ (c .before .before .before .before .loop-test .taken) _ (c .before .before .may-break .ensures) (c .before .if1 .taken)
+
+returns : tie.Need-returns Inv-loop μ-loop
+returns c = left-broken _ _ (c .before .before .before .before .before .before .loop-test .taken) (c .before .before .before .before .before .before .before .loop .inv .1) _ (c .before .item-size .ensures) (c .if2 .taken)
+
+add-i : tie.Need-add-i Inv-loop μ-loop
+add-i c =
+    let h = left-item _ _ (c .before .before .before .before .before .before .loop-test .taken) (c .before .before .before .before .before .before .before .loop .inv .1) _ (c .before .item-size .ensures) (c .if2 .left) in
+    omega (arith, h .0)
+
+loop-less : tie.Need-loop-less Inv-loop μ-loop
+loop-less c =
+    let h = left-item _ _ (c .before .before .before .before .before .before .loop-test .taken) (c .before .before .before .before .before .before .before .loop .inv .1) _ (c .before .item-size .ensures) (c .if2 .left) in
+    omega (arith, h .0)
+
+loop-again : tie.Need-loop-again Inv-loop μ-loop
+loop-again c = left-item _ _ (c .before .before .before .before .before .before .loop-test .taken) (c .before .before .before .before .before .before .before .loop .inv .1) _ (c .before .item-size .ensures) (c .if2 .left)
+
+add-i-2 : tie.Need-add-i-2 Inv-loop μ-loop
+add-i-2 c = search needs
+
+loop-less-2 : tie.Need-loop-less-2 Inv-loop μ-loop
+loop-less-2 c = search needs
+
+loop-again-2 : tie.Need-loop-again-2 Inv-loop μ-loop
+loop-again-2 c =
+    (omega arith, left-byte _ _ (c .before .before .before .loop-test .taken) (c .before .before .before .before .loop .inv .1) _ (c .before .may-break .ensures) (c .if1 .left))
+
+returns-2 : tie.Need-returns-2 Inv-loop μ-loop
+returns-2 c = left-none _ _ (c .loop-test .left) (c .before .loop .inv .1)
+
+pub broken-at-spec : {M : Type 1} → statement M
+broken-at-spec =
+    tie.close
+    (tie.spec
+    Inv-loop
+    μ-loop
+    loop-holds
+    shared-slice-read-may-break
+    may-break-requires
+    sub-item-size
+    part-item-size-start
+    part-item-size-end
+    item-size-requires
+    returns
+    add-i
+    loop-less
+    loop-again
+    add-i-2
+    loop-less-2
+    loop-again-2
+    returns-2)

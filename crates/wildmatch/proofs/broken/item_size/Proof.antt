@@ -1,0 +1,53 @@
+-- `wildmatch::broken::item_size` meets its contract: an escape has two bytes, a class those up to its `]`, and a broken item none.
+use Rattle.wildmatch.proofs.BrokenLaws.{escape-open, escape-size, class-open, class-whole, class-within}
+use native.Mathlib.Omega.{arith}
+use borrow.Author.Needs.{needs}
+use Rattle.wildmatch.proofs.broken.item_size.Statement.{statement}
+use Rattle.wildmatch.proofs.broken.item_size.Tie as tie
+
+shared-slice-read-if1 : tie.Need-shared-slice-read-if1
+shared-slice-read-if1 c = search needs
+
+returns : tie.Need-returns
+returns c = escape-open _ (c .before .before .before .before .pre .0) (c .before .if1 .taken) (c .if2 .taken)
+
+returns-2 : tie.Need-returns-2
+returns-2 c = escape-size _ (c .before .if1 .taken) (c .if2 .left)
+
+sub-class-size : tie.Need-sub-class-size
+sub-class-size c = search needs
+
+part-class-size-start : tie.Need-part-class-size-start
+part-class-size-start c = search needs
+
+part-class-size-end : tie.Need-part-class-size-end
+part-class-size-end c = search needs
+
+class-size-requires : tie.Need-class-size-requires
+class-size-requires c κs = search needs
+
+returns-3 : tie.Need-returns-3
+returns-3 c = class-open _ (c .before .before .before .before .before .before .pre .0) (c .before .before .before .before .before .before .pre .1) (c .before .before .before .if1 .left) _ (c .before .class-size .ensures) (c .if3 .taken)
+
+add-result : tie.Need-add-result
+add-result c =
+    let h = class-within (c .before .before .before .before .before .before .args .p .now) (c .before .before .before .before .before .before .pre .0) (c .before .before .before .before .before .before .pre .1) (c .before .before .before .if1 .left) _
+    (c .before .class-size .ensures) in omega arith
+
+returns-4 : tie.Need-returns-4
+returns-4 c = class-whole _ (c .before .before .before .before .before .before .pre .0) (c .before .before .before .before .before .before .pre .1) (c .before .before .before .if1 .left) _ (c .before .class-size .ensures) (c .if3 .left)
+
+pub item-size-spec : {M : Type 1} → statement M
+item-size-spec =
+    tie.close
+    (tie.spec
+    shared-slice-read-if1
+    returns
+    returns-2
+    sub-class-size
+    part-class-size-start
+    part-class-size-end
+    class-size-requires
+    returns-3
+    add-result
+    returns-4)
