@@ -1,13 +1,13 @@
 //! Every boundary of refusals 7, 8 and 9, and the lowest where several hold.
-use crate::archive;
 use crate::check::Check;
+use crate::matcher::Matcher;
 use crate::twin;
 
 const FLAGS: [u64; 12] = [0, 1, 2, 3, 4, 5, 255, 1 << 32, (1 << 32) + 1, 1 << 63, u64::MAX - 1, u64::MAX];
 const PATTERN_LENGTHS: [usize; 7] = [0, 1, 2, 2047, 2048, 2049, 4097];
 const TEXT_LENGTHS: [usize; 8] = [0, 1, 2, 2049, 4095, 4096, 4097, 8193];
 
-pub fn run(check: &mut Check) {
+pub fn run<M: Matcher>(check: &mut Check<M>) {
     for fill in [b'a', b'*', b'?', b'/', b'\\', b'[', 0xff] {
         lengths(check, fill);
     }
@@ -17,13 +17,13 @@ pub fn run(check: &mut Check) {
     words(check);
     far_over(check);
     for flags in FLAGS {
-        let want = twin::match_code(b"", b"", flags);
-        check.judge(b"", b"", flags, want, archive::ask_null(flags), false);
+        let got = check.asker.matcher.ask_null(flags);
+        check.judge(b"", b"", flags, twin::answer(b"", b"", flags), got);
     }
 }
 
 /// Both lengths over their limits and under, with every flags number.
-fn lengths(check: &mut Check, fill: u8) {
+fn lengths<M: Matcher>(check: &mut Check<M>, fill: u8) {
     for pattern in PATTERN_LENGTHS {
         for text in TEXT_LENGTHS {
             for flags in FLAGS {
@@ -36,7 +36,7 @@ fn lengths(check: &mut Check, fill: u8) {
 /// Byte 0 nowhere, first, in the middle and last, in each and in both; at
 /// every length up to 40 each place, so that no block or tail of a scan is
 /// left out.
-fn zero_bytes(check: &mut Check) {
+fn zero_bytes<M: Matcher>(check: &mut Check<M>) {
     for pattern in PATTERN_LENGTHS {
         for text in TEXT_LENGTHS {
             for p in places(pattern) {
@@ -83,7 +83,7 @@ fn holding(length: usize, place: Option<usize>, x: u8) -> Vec<u8> {
 
 /// Refusal 8 is byte 0 alone: every other byte is taken in the text and in the
 /// pattern, control bytes too. The text is no path.
-fn every_byte(check: &mut Check) {
+fn every_byte<M: Matcher>(check: &mut Check<M>) {
     for x in 0..=255 {
         for flags in 0..4 {
             check.case(b"?", &[x], flags);
@@ -97,7 +97,7 @@ fn every_byte(check: &mut Check) {
 }
 
 /// A control byte at each place of a text and of a pattern: not refused.
-fn control_bytes(check: &mut Check) {
+fn control_bytes<M: Matcher>(check: &mut Check<M>) {
     for x in [1, 10, 31, 127] {
         for length in (1..=70).chain([2048]) {
             for place in (0..length).step_by(1 + length / 100) {
@@ -110,19 +110,19 @@ fn control_bytes(check: &mut Check) {
 }
 
 /// Refusal 7 far over the limits, byte 0 and flags bad as well.
-fn far_over(check: &mut Check) {
+fn far_over<M: Matcher>(check: &mut Check<M>) {
     let long = vec![0; 5_000_000];
     for (pattern, text) in [(&long[..], &b"a"[..]), (b"a", &long), (&long, &long)] {
         for flags in FLAGS {
-            let want = twin::match_code(pattern, text, flags);
-            let got = archive::ask_bare(pattern, text, flags);
-            check.judge(&[], &[], flags, want, got, false);
+            let want = twin::answer(pattern, text, flags);
+            let got = check.asker.matcher.ask_bare(pattern, text, flags);
+            check.judge(&[], &[], flags, want, got);
         }
     }
 }
 
 /// Every flags number of one bit and of few bits: none of the 64 is dropped.
-fn words(check: &mut Check) {
+fn words<M: Matcher>(check: &mut Check<M>) {
     for bit in 0..64 {
         for low in 0..4 {
             check.case(b"[a-z]/B", b"A/b", 1 << bit | low);

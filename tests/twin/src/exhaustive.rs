@@ -1,6 +1,7 @@
 //! Every small pattern against every small text, in the four modes.
 use crate::check::Check;
 use crate::fence::Fence;
+use crate::matcher::Matcher;
 use crate::words::words;
 
 /// How far a set goes: the quick run and the full run.
@@ -20,7 +21,7 @@ impl Extent {
     }
 }
 
-pub fn run(check: &mut Check, extent: Extent) {
+pub fn run<M: Matcher>(check: &mut Check<M>, extent: Extent) {
     items(check, extent);
     runs(check, extent);
     class_bodies(check, extent);
@@ -37,13 +38,13 @@ pub fn texts(letters: &[u8], least: usize, most: usize) -> Vec<Fence> {
 }
 
 /// All items at once, the patterns short.
-fn items(check: &mut Check, extent: Extent) {
+fn items<M: Matcher>(check: &mut Check<M>, extent: Extent) {
     let texts = texts(b"a/-", 0, extent.pick(3, 4));
     words(b"a/*?[]\\!-", 0, extent.pick(4, 5), |pattern| check.pattern(pattern, &texts));
 }
 
 /// Runs and slashes alone, the patterns longer.
-fn runs(check: &mut Check, extent: Extent) {
+fn runs<M: Matcher>(check: &mut Check<M>, extent: Extent) {
     let texts = texts(b"a/", 0, extent.pick(5, 6));
     words(b"a/*", 5, extent.pick(7, 9), |pattern| check.pattern(pattern, &texts));
     words(b"/*\\?", 5, extent.pick(5, 7), |pattern| check.pattern(pattern, &texts));
@@ -51,7 +52,7 @@ fn runs(check: &mut Check, extent: Extent) {
 
 /// What may stand between `[` and `]`, against every byte it may name, with
 /// and without the tail that is left if the class closes early.
-fn class_bodies(check: &mut Check, extent: Extent) {
+fn class_bodies<M: Matcher>(check: &mut Check<M>, extent: Extent) {
     let mut texts = Vec::new();
     for &x in b"][:aA-\\!^_/b" {
         texts.push(Fence::holding(&[x]));
@@ -72,7 +73,7 @@ fn every_byte() -> Vec<Fence> {
 }
 
 /// Each name, and names that are nearly one, against every byte.
-fn names(check: &mut Check) {
+fn names<M: Matcher>(check: &mut Check<M>) {
     let texts = every_byte();
     let twelve =
         ["alnum", "alpha", "blank", "cntrl", "digit", "graph", "lower", "print", "punct", "space", "upper", "xdigit"];
@@ -88,7 +89,7 @@ fn names(check: &mut Check) {
 
 /// Ranges between bytes at the edges of letters, digits, ASCII and bytes,
 /// against every byte.
-fn ranges(check: &mut Check, extent: Extent) {
+fn ranges<M: Matcher>(check: &mut Check<M>, extent: Extent) {
     let texts = every_byte();
     let edges: &[u8] = b"\x01AZaz[`-/\xff @{09\x7f\x80]!";
     for &low in &edges[..extent.pick(10, edges.len())] {
@@ -100,7 +101,7 @@ fn ranges(check: &mut Check, extent: Extent) {
 }
 
 /// Every byte as a pattern and escaped, against every byte.
-fn literals(check: &mut Check) {
+fn literals<M: Matcher>(check: &mut Check<M>) {
     let texts = every_byte();
     for x in 1..=255 {
         check.pattern(&[x], &texts);

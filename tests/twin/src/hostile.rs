@@ -1,10 +1,11 @@
 //! Random bytes, long runs and sizes near the limits.
 use crate::check::Check;
 use crate::families::FAMILIES;
+use crate::matcher::Matcher;
 use crate::random::Random;
 
 /// `small` cases of short random bytes, then `large` cases near the limits.
-pub fn run(check: &mut Check, random: &mut Random, small: u64, large: u64) {
+pub fn run<M: Matcher>(check: &mut Check<M>, random: &mut Random, small: u64, large: u64) {
     for _ in 0..small {
         let pattern = noise(random, 24);
         let text = noise(random, 24);

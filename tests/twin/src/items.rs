@@ -15,19 +15,22 @@ pub enum Item {
     Class(Box<Class>),
 }
 
-/// The items of the pattern, or nothing if it is broken.
-pub fn read(pattern: &[u8]) -> Option<Vec<Item>> {
+/// The items of the pattern or, if it is broken, "the place in the pattern of
+/// the byte where the first broken item begins" (document 02, R-14), from 0. What
+/// stands behind that item is not read.
+pub fn read(pattern: &[u8]) -> Result<Vec<Item>, usize> {
     let mut items = Vec::new();
     let mut at = 0;
     while at < pattern.len() {
-        let (item, after) = read_item(pattern, at)?;
+        let (item, after) = read_item(pattern, at).ok_or(at)?;
         items.push(item);
         at = after;
     }
-    Some(items)
+    Ok(items)
 }
 
-/// The item that starts at `at`, and the place after it.
+/// The item that starts at `at`, and the place after it; nothing if it is
+/// broken. A class is one item: whatever is wrong inside, it starts at its `[`.
 fn read_item(pattern: &[u8], at: usize) -> Option<(Item, usize)> {
     match pattern[at] {
         // "`\x` is the literal x. A `\` at the end makes the pattern broken."

@@ -3,6 +3,7 @@
 //! share.
 
 // The twin: the matcher, and the two questions in `reader`.
+pub mod answer;
 pub mod class;
 pub mod items;
 pub mod reader;
@@ -23,25 +24,27 @@ pub mod asking;
 pub mod crash;
 pub mod fence;
 pub mod hex;
+pub mod matcher;
 pub mod painted;
 pub mod program;
 pub mod random;
 pub mod timing;
 
-// What asks the C calls: the matcher's own tests, and the questions' growth.
+// The matcher's own tests, by the C call or by the prober.
+pub mod boundary;
+pub mod broken;
+pub mod check;
+pub mod exhaustive;
+pub mod hostile;
+pub mod long_runs;
+pub mod rows;
+pub mod sets;
+
 #[cfg(feature = "fidshore")]
 pub mod archive;
-#[cfg(feature = "fidshore")]
-pub mod boundary;
-#[cfg(feature = "fidshore")]
-pub mod check;
-#[cfg(feature = "fidshore")]
-pub mod exhaustive;
+#[cfg(feature = "prober")]
+pub mod probed;
+
+// What asks the C calls: the questions' growth.
 #[cfg(feature = "fidshore")]
 pub mod growth;
-#[cfg(feature = "fidshore")]
-pub mod hostile;
-#[cfg(feature = "fidshore")]
-pub mod long_runs;
-#[cfg(feature = "fidshore")]
-pub mod rows;

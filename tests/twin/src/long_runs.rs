@@ -4,6 +4,7 @@
 //! Then longer runs, up to the pattern's limit.
 use crate::check::Check;
 use crate::exhaustive::texts;
+use crate::matcher::Matcher;
 
 const RUNS: [&str; 5] = ["*", "**", "***", "****", "**********"];
 /// Nothing, so that the run starts the pattern; a literal, `/`, `\/`, `[/]`, `?`;
@@ -13,7 +14,7 @@ const BEFORE: [&str; 14] =
 /// The same after the run; at the end, and with more behind.
 const AFTER: [&str; 14] = ["", "b", "/", "/b", "\\/", "\\/b", "[/]", "[/]b", "[/b]", "?", "?/b", "\\b", "\\", "//"];
 
-pub fn run(check: &mut Check) {
+pub fn run<M: Matcher>(check: &mut Check<M>) {
     // With no slash, one and several; some with the star that `\*` takes.
     let texts: Vec<_> = texts(b"ab/", 0, 5).into_iter().chain(texts(b"*/b", 3, 4)).collect();
     for before in BEFORE {

@@ -1,25 +1,13 @@
 //! The tables of documents 001 and 01 as `crates/tables` runs them: they are
 //! written once, in its data files, whose first lines say how. A row that cannot
-//! be read stops the program.
+//! be read stops the program. Here are those of the two questions, and what those
+//! of the matcher (`rows.rs`) are read with too.
 use crate::reader::{Answer, Question};
 
-const MATCHES: [&str; 2] = [
-    include_str!("../../../crates/tables/data/document-001.tsv"),
-    include_str!("../../../crates/tables/data/document-01.tsv"),
-];
 const QUESTIONS: [&str; 2] = [
     include_str!("../../../crates/tables/data/ignore.tsv"),
     include_str!("../../../crates/tables/data/attributes.tsv"),
 ];
-
-/// A row of the matcher.
-pub struct Match {
-    pub label: &'static str,
-    pub pattern: Vec<u8>,
-    pub text: Vec<u8>,
-    /// Code numbers in the order of the columns: path, path and fold, plain, plain and fold.
-    pub codes: Vec<u32>,
-}
 
 /// A row of one of the two questions, with the complete answer.
 pub struct Asked {
@@ -28,27 +16,16 @@ pub struct Asked {
     pub answer: Answer,
 }
 
-pub fn matches() -> Vec<Match> {
-    MATCHES.into_iter().flat_map(|file| rows(file, matched)).collect()
-}
-
 pub fn questions() -> Vec<Asked> {
     QUESTIONS.into_iter().flat_map(|file| rows(file, |row| asked(file, row))).collect()
 }
 
 /// Reads every row of a file. A file without rows would pass as one that is right.
-fn rows<R>(file: &'static str, read: impl Fn(&'static str) -> Option<R>) -> Vec<R> {
+pub fn rows<R>(file: &'static str, read: impl Fn(&'static str) -> Option<R>) -> Vec<R> {
     let lines = file.split('\n').filter(|line| !line.is_empty() && !line.starts_with(['#', '=']));
     let rows: Vec<R> = lines.map(|line| read(line).unwrap_or_else(|| panic!("malformed: {line}"))).collect();
     assert!(!rows.is_empty(), "a data file without rows");
     rows
-}
-
-fn matched(row: &'static str) -> Option<Match> {
-    let [label, pattern, text, answers] = fields(row)?;
-    let codes: Vec<u32> = answers.chars().map(|digit| digit.to_digit(10)).collect::<Option<_>>()?;
-    (codes.len() == 4).then_some(())?;
-    Some(Match { label, pattern: bytes(pattern)?, text: bytes(text)?, codes })
 }
 
 fn asked(file: &str, row: &'static str) -> Option<Asked> {
@@ -66,12 +43,12 @@ fn asked(file: &str, row: &'static str) -> Option<Asked> {
     Some(Asked { label, question, answer })
 }
 
-fn fields<const N: usize>(row: &str) -> Option<[&str; N]> {
+pub fn fields<const N: usize>(row: &str) -> Option<[&str; N]> {
     row.split('\t').collect::<Vec<_>>().try_into().ok()
 }
 
 /// The bytes that a field writes: `%HH` is one of them.
-fn bytes(field: &str) -> Option<Vec<u8>> {
+pub fn bytes(field: &str) -> Option<Vec<u8>> {
     let digit = |at: Option<&u8>| (*at? as char).to_digit(16);
     let mut written = field.as_bytes().iter();
     let mut bytes = Vec::new();

@@ -2,18 +2,32 @@
 //! shape than a backtracking matcher: the pattern is read into items, then a
 //! table over (item place, text place) is filled row by row. Nothing is tried
 //! twice and nothing recurses, so there is no pruning that could be wrong.
+use crate::answer::Answer;
 use crate::items::{read, Item};
 
 pub const PATH: u64 = 1;
 pub const FOLD: u64 = 2;
 
-/// What the C call answers: 0, 1, or 16 plus the number of a refusal.
-/// "Where several hold, the lowest is answered."
-pub fn match_code(pattern: &[u8], text: &[u8], flags: u64) -> u32 {
+/// "Where several hold, the lowest is answered", and before broken.
+pub fn answer(pattern: &[u8], text: &[u8], flags: u64) -> Answer {
     match refusal(pattern, text, flags) {
-        Some(number) => 16 + number,
-        None => matches(pattern, text, flags) as u32,
+        Some(number) => Answer::code(16 + number),
+        None => answer_accepted(&read(pattern), text, flags),
     }
+}
+
+/// The answer of a pattern that was read, in a call that is not refused. Broken
+/// does not hang on the text or the mode.
+pub fn answer_accepted(items: &Result<Vec<Item>, usize>, text: &[u8], flags: u64) -> Answer {
+    match items {
+        Ok(items) => Answer::code(joins(items, text, flags) as u32),
+        Err(place) => Answer::broken(*place),
+    }
+}
+
+/// What the C call answers: the code "without the place".
+pub fn match_code(pattern: &[u8], text: &[u8], flags: u64) -> u32 {
+    answer(pattern, text, flags).code
 }
 
 /// Refusals 7, 8 and 9 of the table, in this order.
@@ -30,16 +44,8 @@ pub fn refusal(pattern: &[u8], text: &[u8], flags: u64) -> Option<u32> {
     None
 }
 
-/// "A broken pattern matches nothing. Otherwise it matches exactly when the
-/// text is the joining, in order, of what its items may take."
-pub fn matches(pattern: &[u8], text: &[u8], flags: u64) -> bool {
-    match read(pattern) {
-        None => false,
-        Some(items) => joins(&items, text, flags),
-    }
-}
-
-/// Is the text the joining of what the items may take?
+/// "Otherwise it matches exactly when the text is the joining, in order, of what
+/// its items may take." Is it?
 ///
 /// Cell (i, j) of the table: items 0..i may take exactly text bytes 0..j.
 pub fn joins(items: &[Item], text: &[u8], flags: u64) -> bool {

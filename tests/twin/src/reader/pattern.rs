@@ -21,7 +21,7 @@ impl LinePattern {
         // "If a `/` is left anywhere, the pattern is anchored: one first `/` goes"
         let anchored = bytes.contains(&b'/');
         let bytes = bytes.strip_prefix(b"/").unwrap_or(bytes);
-        let items = if bytes.is_empty() { None } else { read(bytes) };
+        let items = if bytes.is_empty() { None } else { read(bytes).ok() };
         LinePattern { directories_only, anchored, items }
     }
 
