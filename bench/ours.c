@@ -4,9 +4,11 @@
 
 #define LENT(s) (const uint8_t *)(s).at, (s).len
 
+/* Broken is read as no match: git and fnmatch, and an archive from before R-14, tell no more. */
 static int match(struct bytes pattern, struct bytes text, unsigned flags)
 {
-    return (int)fidshore_match(LENT(pattern), LENT(text), flags);
+    uint32_t code = fidshore_match(LENT(pattern), LENT(text), flags);
+    return code == FIDSHORE_BROKEN ? FIDSHORE_NO_MATCH : (int)code;
 }
 
 static int ignore(struct bytes rules, struct bytes path, unsigned flags)

@@ -47,9 +47,15 @@
 extern "C" {
 #endif
 
-/* Codes of fidshore_match. */
+/* Each call has its own codes below FIDSHORE_REFUSED: 2 is FIDSHORE_BROKEN from
+ * fidshore_match, FIDSHORE_RE_INCLUDED from fidshore_ignore, FIDSHORE_UNSET from
+ * fidshore_attribute. */
+
+/* Codes of fidshore_match. A pattern that is broken, as `[a-z` without its `]`,
+ * matches nothing; which byte is at fault is not told. */
 #define FIDSHORE_NO_MATCH 0
 #define FIDSHORE_MATCH 1
+#define FIDSHORE_BROKEN 2
 
 /* The code of both questions where no line speaks. */
 #define FIDSHORE_NOTHING_SAID 0
@@ -84,8 +90,11 @@ extern "C" {
  *
  * Flags: FIDSHORE_PATH_MODE (wildcards stop at `/`, `**` or more may cross it),
  *        FIDSHORE_FOLD (ASCII letters match in either case).
- * Codes: FIDSHORE_NO_MATCH (also for a broken pattern, as `[a-z`),
- *        FIDSHORE_MATCH; 16 plus refusal 7, 8 or 9.
+ * Codes: FIDSHORE_MATCH; FIDSHORE_NO_MATCH; FIDSHORE_BROKEN: the pattern cannot be
+ *        read, as `[a-z` or one that ends in a lone `\`, whatever the text and
+ *        the mode are; 16 plus refusal 7, 8 or 9, which come before broken. The
+ *        questions do not tell: to them a broken pattern is one that does not
+ *        match, and its line says nothing. To find such a line, ask here.
  * Limits: 2,048 bytes of pattern, 4,096 of text. Both may be empty.
  * Stack: at most 143 KB. Time: about 35 ns for a short pattern; the work grows at
  * most as pattern times text, and no input found takes over 100 ms.
@@ -95,6 +104,7 @@ extern "C" {
  *     fidshore_match(pattern, 8, text, 11, 0);                    is FIDSHORE_MATCH
  *     fidshore_match(pattern, 8, text, 11, FIDSHORE_PATH_MODE);   is FIDSHORE_NO_MATCH
  *     fidshore_match(pattern, 8, text, 11, 4);                    is FIDSHORE_REFUSED + 9
+ *     fidshore_match((const uint8_t *)"[a-z", 4, text, 11, 0);    is FIDSHORE_BROKEN
  */
 uint32_t fidshore_match(const uint8_t *pattern, size_t pattern_len,
                         const uint8_t *text, size_t text_len, uint64_t flags);

@@ -15,6 +15,7 @@ int main(void)
         && fidshore_ignore(LENT("cal/\n"), LENT("CAL"), FIDSHORE_DIRECTORY | FIDSHORE_FOLD) == FIDSHORE_IGNORED
         && fidshore_ignore(NULL, 0, LENT("cal"), 0) == FIDSHORE_NOTHING_SAID
         && fidshore_match(LENT("2026*.nc"), LENT("2026/h05.nc"), FIDSHORE_PATH_MODE) == FIDSHORE_NO_MATCH
+        && fidshore_match(LENT("[a-z"), LENT("a"), 0) == FIDSHORE_BROKEN
         && fidshore_match(LENT("a"), LENT("a"), 4) == FIDSHORE_REFUSED + 9;
 #ifdef __cplusplus
     printf("installed, from C++: %s\n", right ? "all right" : "wrong");

@@ -1,7 +1,8 @@
-/* The archive from C: the frames P1 to P13 and the rows on long runs in the four
- * modes, the rows of the two questions that C can ask, the examples of the
- * header, each refusal that C can reach, on both sides of its limits, and for
- * every argument no bytes and the most. Prints one line; status 1 if any answer
+/* The archive from C: the frames P1 to P13 and the rows on long runs and on broken
+ * patterns in the four modes, the rows of the two questions that C can ask, the
+ * examples of the header, each way for a pattern to be broken, each refusal that C
+ * can reach, on both sides of its limits, and for every argument no bytes and the
+ * most. Prints one line; status 1 if any answer
  * differs or a row cannot be read.
  *
  * usage: smoke MATCHES IGNORES ATTRIBUTES
@@ -71,7 +72,15 @@ static struct bytes fill(size_t len)
 /* Where the bytes of a row are put. */
 static char rooms[2][SHEET_LIMIT];
 
-/* The answers of the four columns are code numbers, a digit each. */
+/* Is it `broken` with a place? C is not told the place. */
+static int says_broken(const char *answers)
+{
+    static const char word[] = "broken ";
+    const char *place = answers + strlen(word);
+    return !strncmp(answers, word, strlen(word)) && *place && strspn(place, "0123456789") == strlen(place);
+}
+
+/* The answers of the four columns are code numbers, a digit each, or all are broken. */
 static int match_row(char *row)
 {
     static const uint64_t columns[] = { FIDSHORE_PATH_MODE, FIDSHORE_PATH_MODE | FIDSHORE_FOLD, 0, FIDSHORE_FOLD };
@@ -79,8 +88,9 @@ static int match_row(char *row)
     char *fields[4];
     if (!sheet_cut(row, fields, 4)) return 0;
     if (!sheet_decode(fields[1], rooms[0], &pattern) || !sheet_decode(fields[2], rooms[1], &text)) return 0;
-    if (strlen(fields[3]) != 4 || strspn(fields[3], "0123456789") != 4) return 0;
-    for (size_t k = 0; k < 4; k++) match(pattern, text, columns[k], (uint32_t)(fields[3][k] - '0'));
+    int broken = says_broken(fields[3]);
+    if (!broken && (strlen(fields[3]) != 4 || strspn(fields[3], "01") != 4)) return 0;
+    for (size_t k = 0; k < 4; k++) match(pattern, text, columns[k], broken ? FIDSHORE_BROKEN : (uint32_t)(fields[3][k] - '0'));
     return 1;
 }
 
@@ -178,6 +188,54 @@ static void matcher_refusals(void)
     match(str("a"), BYTES("\0a"), UINT64_MAX, FIDSHORE_REFUSED + 8);
 }
 
+/* In every mode, and with every text: what the pattern's own bytes are, one that
+ * its front takes, one that fails at once, and none. A refusal comes first. */
+static void pattern_is_broken(struct bytes pattern)
+{
+    const struct bytes texts[] = { pattern, str("a"), str("\x01"), none };
+    for (size_t i = 0; i < 4 * sizeof texts / sizeof *texts; i++) match(pattern, texts[i / 4], i % 4, FIDSHORE_BROKEN);
+    match(pattern, none, 4, FIDSHORE_REFUSED + 9);
+    match(pattern, BYTES("\0"), 4, FIDSHORE_REFUSED + 8);
+    match(pattern, fill(FIDSHORE_TEXT_LIMIT + 1), 4, FIDSHORE_REFUSED + 7);
+}
+
+/* Each way to be broken: at the start, behind an item, and up to the last byte of
+ * the longest pattern; one byte more is refused. */
+static void matcher_broken(void)
+{
+    static const char *const ways[] = {
+        "\\", "[", "[!", "[^", "[]", "[!]", "[a-z", "[a-", "[[:", "[[:alpha:", "[[:alpha:]", "[[:foo:]]", "[[::]]", "[a\\", "[a-\\", "[\\]",
+    };
+    static char long_room[FIDSHORE_PATTERN_LIMIT + 1], room[16];
+    for (size_t i = 0; i < sizeof ways / sizeof *ways; i++) {
+        const struct bytes way = str(ways[i]);
+        pattern_is_broken(way);
+        snprintf(room, sizeof room, "a%s", way.at);
+        pattern_is_broken(str(room));
+        memset(long_room, 'a', sizeof long_room);
+        memcpy(long_room + sizeof long_room - way.len, way.at, way.len);
+        pattern_is_broken((struct bytes){ long_room + 1, FIDSHORE_PATTERN_LIMIT });
+        match((struct bytes){ long_room, sizeof long_room }, none, 0, FIDSHORE_REFUSED + 7);
+    }
+    match(BYTES("[\0"), str("a"), 0, FIDSHORE_REFUSED + 8);
+}
+
+/* Nearly broken. Each call has its own codes: 2 of a question is something else. */
+static void matcher_unbroken(void)
+{
+    match(none, str("a"), 0, FIDSHORE_NO_MATCH);
+    match(str("\\\\"), str("\\"), 0, FIDSHORE_MATCH);
+    match(str("\\[a-z"), str("[a-z"), 0, FIDSHORE_MATCH);
+    match(str("[]]"), str("]"), 0, FIDSHORE_MATCH);
+    match(str("[!]]"), str("]"), 0, FIDSHORE_NO_MATCH);
+    match(str("[\\]]"), str("]"), 0, FIDSHORE_MATCH);
+    match(str("[[:]"), str("["), 0, FIDSHORE_MATCH);
+    match(str("[[=a=]]"), str("=]"), 0, FIDSHORE_MATCH);
+    ignore(str("*\n![a-z\n"), str("q"), 0, FIDSHORE_IGNORED);
+    ignore(str("*\n![a-z]\n"), str("q"), 0, FIDSHORE_RE_INCLUDED);
+    attribute(str("* fill\n[a-z -fill\n"), str("q"), str("fill"), 0, FIDSHORE_SET);
+}
+
 /* A text is no path: it and the pattern may hold every byte but 0. */
 static void matcher_bytes(void)
 {
@@ -200,7 +258,8 @@ static void header_examples(void)
         judge("match", p, t, 0, fidshore_match(pattern, 8, text, 11, 0), FIDSHORE_MATCH);
         judge("match", p, t, 1, fidshore_match(pattern, 8, text, 11, FIDSHORE_PATH_MODE), FIDSHORE_NO_MATCH);
         judge("match", p, t, 4, fidshore_match(pattern, 8, text, 11, 4), FIDSHORE_REFUSED + 9);
-        match(str("[a-z"), str("[a-z"), 0, FIDSHORE_NO_MATCH);
+        judge("match", str("[a-z"), t, 0, fidshore_match((const uint8_t *)"[a-z", 4, text, 11, 0), FIDSHORE_BROKEN);
+        match(str("[a-z"), str("[a-z"), 0, FIDSHORE_BROKEN);
     }
     {
         static const uint8_t rules[] = "cal/\n!cal/h07.jpg\n", path[] = "cal/h07.jpg";
@@ -425,6 +484,8 @@ int main(int count, char **words)
     matcher();
     matcher_refusals();
     matcher_bytes();
+    matcher_broken();
+    matcher_unbroken();
     header_examples();
     paths();
     path_lengths();

@@ -26,7 +26,7 @@
 #else
 #define STACK ((size_t)1 << 20)
 #endif
-#define QUESTIONS 13
+#define QUESTIONS 16
 
 struct bytes { uint8_t *at; size_t len; };
 
@@ -68,7 +68,7 @@ static void put(int kind, struct bytes first, struct bytes second, struct bytes 
 
 static void seldom(size_t every) { questions[count - 1].every = every; }
 
-/* The usual ones, and a refusal. */
+/* The usual ones, a broken pattern and a refusal. */
 static void usual(void)
 {
     struct bytes rules = text("cal/\n*.tmp\n!keep.tmp\n/2026/**/h17.nc\n"), none = { NULL, 0 };
@@ -82,15 +82,21 @@ static void usual(void)
     put(ATTRIBUTE, attributes, text("h03.nc"), fill, 0, FIDSHORE_UNSPECIFIED);
     put(ATTRIBUTE, attributes, text("h03.nc"), text("gap"), 0, FIDSHORE_SET);
     put(MATCH, text("2026/**/h[0-9]?.nc"), text("2026/03/05/h05.nc"), none, FIDSHORE_PATH_MODE, FIDSHORE_MATCH);
+    put(MATCH, text("2026/**/h[0-9?.nc"), text("2026/03/05/h05.nc"), none, FIDSHORE_PATH_MODE, FIDSHORE_BROKEN);
 }
 
 /* The deepest known (docs/COSTS.md): `**` and `/` 681 times against 2,048
- * components. The ignore question goes down to the top directory first and meets
+ * components; as many before a broken end; and a class that is broken at the
+ * limit. The ignore question goes down to the top directory first and meets
  * the pattern there, so it is as deep when that directory is ignored at once. */
 static void deepest(void)
 {
     struct bytes path = row("", "a/", 2047, "ab"), none = { NULL, 0 };
     put(MATCH, row("", "**/", 681, "[b]"), path, none, FIDSHORE_PATH_MODE, FIDSHORE_NO_MATCH);
+    seldom(100);
+    put(MATCH, row("", "**/", 682, "["), path, none, FIDSHORE_PATH_MODE, FIDSHORE_BROKEN);
+    seldom(100);
+    put(MATCH, row("[", "[:", 1023, "a"), path, none, 0, FIDSHORE_BROKEN);
     seldom(100);
     put(ATTRIBUTE, row("", "**/", 680, "ab fill"), path, text("fill"), 0, FIDSHORE_SET);
     seldom(100);

@@ -16,7 +16,7 @@
 size_t asked;
 
 static const char *const call_names[] = { "match", "ignore", "attribute" };
-static const uint32_t highest[] = { FIDSHORE_MATCH, FIDSHORE_RE_INCLUDED, FIDSHORE_UNSPECIFIED };
+static const uint32_t highest[] = { FIDSHORE_BROKEN, FIDSHORE_RE_INCLUDED, FIDSHORE_UNSPECIFIED };
 
 static void show(const char *what, const struct buffer *b)
 {

@@ -1,5 +1,6 @@
 /* Laws of the matcher, and what ties the questions to it. */
 #include "soak.h"
+#include "fidshore.h"
 #include <string.h>
 
 static int path_mode(const struct question *q) { return q->flags & 1; }
@@ -20,11 +21,11 @@ static int slash_before_both(const struct question *q, uint32_t code)
     return with_fronts(q, "/", "/") && gives(code);
 }
 
+/* Then nothing can match; a broken pattern stays so. */
 static int slash_before_pattern(const struct question *q, uint32_t code)
 {
-    (void)code;
     if (q->second.len > 0 && q->second.at[0] == '/') return 0;
-    return with_fronts(q, "/", "") && gives(0);
+    return with_fronts(q, "/", "") && gives(code == FIDSHORE_BROKEN ? FIDSHORE_BROKEN : FIDSHORE_NO_MATCH);
 }
 
 /* A literal before both; in path mode a run would no longer start the pattern. */
@@ -72,15 +73,35 @@ static int star_behind(const struct question *q, uint32_t code)
     return gives(1);
 }
 
-/* What matched is whole; with a broken end it matches nothing. */
+/* An unbroken pattern with a broken end is broken (document 02, R-14), whether it matched or not. */
 static int broken_behind(const struct question *q, uint32_t code)
 {
     static const char *const broken[] = { "\\", "[", "[a-", "[!", "[[:nope:]]", "[[::]]", "[[:alpha:]", "*[]" };
     const char *end = PICK(broken);
-    if (code != 1 || q->first.len + strlen(end) > 2048) return 0;
+    if (code == FIDSHORE_BROKEN || q->first.len + strlen(end) > 2048) return 0;
     copy_question(&changed, q);
     add_text(&changed.first, end);
-    return gives(0);
+    return gives(FIDSHORE_BROKEN);
+}
+
+/* What stands behind a broken item is not read: a name that is none breaks every pattern. */
+static int broken_before(const struct question *q, uint32_t code)
+{
+    static const char *const broken[] = { "[[:nope:]]", "a[![::]]", "**/[x[:ALPHA:]" };
+    (void)code;
+    return with_fronts(q, PICK(broken), "") && gives(FIDSHORE_BROKEN);
+}
+
+/* Whether a pattern is broken does not hang on the text or the mode. */
+static int broken_in_any_call(const struct question *q, uint32_t code)
+{
+    static const char *const texts[] = { "", "a", "/", "a/b", "\x01", "[" };
+    copy_question(&changed, q);
+    changed.flags = below(4);
+    if (chance(80)) changed.second.len = 0, add_text(&changed.second, PICK(texts));
+    uint32_t got = ask(&changed);
+    if ((got == FIDSHORE_BROKEN) != (code == FIDSHORE_BROKEN)) wrong(&changed, "broken with another text or mode; before", got, code);
+    return 1;
 }
 
 /* With no `/` in either, path mode makes no difference. */
@@ -137,10 +158,12 @@ static int wildcards_alone(const struct question *q, uint32_t code)
 
 /* The pattern behind a `/` as the only line: the attribute question must answer
  * as the matcher in path mode; the ignore question too, for one component, and
- * for more if the whole path is taken. */
+ * for more if the whole path is taken. To both, broken is no match: their own
+ * code 2 is another. */
 static int as_a_line(const struct question *q, uint32_t code)
 {
     static struct question line;
+    const uint32_t said = code == FIDSHORE_MATCH;
     if (!path_mode(q) || q->first.len == 0 || q->first.len > 2040 || holds_any(&q->first, "\n\r\t ")) return 0;
     if (q->first.at[q->first.len - 1] == '/') return 0;
     copy_question(&line, q);
@@ -149,11 +172,11 @@ static int as_a_line(const struct question *q, uint32_t code)
     line.call = IGNORE;
     if (refusal(&line)) return 0;
     copy_question(&changed, &line);
-    if (code == 1 || !last_slash(&q->second)) gives(code);
+    if (said || !last_slash(&q->second)) gives(said);
     changed.call = ATTRIBUTE;
     add_text(&changed.first, " n");
     add_text(&changed.name, "n");
-    return gives(code);
+    return gives(said);
 }
 
 struct law match_laws[] = {
@@ -166,6 +189,8 @@ struct law match_laws[] = {
     { "`*` before the pattern", star_before, 0 },
     { "`*` behind the pattern", star_behind, 0 },
     { "a broken end", broken_behind, 0 },
+    { "a broken front", broken_before, 0 },
+    { "broken, whatever the text and the mode", broken_in_any_call, 0 },
     { "no `/`: path mode says nothing", no_slash_no_mode, 0 },
     { "the text escaped", escaped_text, 0 },
     { "`?` and runs alone", wildcards_alone, 0 },

@@ -23,7 +23,7 @@ static const char *const call_names[] = { "match", "ignore", "attribute" };
 
 /* Every code that C can get from each call, ended by -1: 16 plus 2 is none. */
 static const int codes[][13] = {
-    { 0, 1, 23, 24, 25, -1 },
+    { 0, 1, 2, 23, 24, 25, -1 },
     { 0, 1, 2, 17, 19, 20, 21, 25, -1 },
     { 0, 1, 2, 3, 4, 17, 19, 20, 21, 22, 25, -1 },
 };

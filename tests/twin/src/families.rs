@@ -35,7 +35,7 @@ const fn text(unit: &'static str, good: &'static str, late: &'static str) -> Tex
     Text { unit, good, late }
 }
 
-pub const FAMILIES: &[Family] = &[
+const FAMILIES: &[Family] = &[
     short("`*a`", "*a", "", text("a", "", "b")),
     short("`*a` then `b`", "*a", "b", text("a", "b", "c")),
     short("`*?`", "*?", "b", text("a", "b", "c")),
@@ -79,6 +79,35 @@ pub const FAMILIES: &[Family] = &[
     long("`[[:[:...x]*`, 4 times", ["[", "[:", "x]*"], 4, "b", text("x", "b", "a")),
     long("`**/[[:[:...x]`, at each component", ["**/[", "[:", "x]"], 1, "", text("a/", "x", "a")),
 ];
+
+/// Patterns that are broken, or are found not to be only at their end: what is
+/// read alone must grow as the pattern does. Of an even number of `\` each second
+/// one is escaped; one more is broken.
+pub const READ_FAMILIES: &[Family] = &[
+    short("`[`, not closed", "[", "", text("a", "", "b")),
+    short("`[a`, not closed", "[a", "", text("a", "", "b")),
+    long("`[[:[:...`, not closed", ["[", "[:", ""], 1, "", text("a", "", "b")),
+    long("`[[:[:...:]`, a name that is none", ["[", "[:", ":]]"], 1, "", text("a", "", "b")),
+    long("`[[:alpha:]...`, not closed", ["[", "[:alpha:]", ""], 1, "", text("a", "", "1")),
+    long("`[a-za-z...`, not closed", ["[", "a-z", ""], 1, "", text("a", "", "1")),
+    long("`[\\]\\]...`, not closed", ["[", "\\]", ""], 1, "", text("a", "", "]")),
+    short("`\\`, an even number", "\\\\", "", text("\\", "", "a")),
+    short("`\\`, an odd number", "\\\\", "\\", text("\\", "", "a")),
+    short("`a` then `\\`", "a", "\\", text("a", "", "b")),
+    short("`a`, unbroken", "a", "", text("a", "", "b")),
+    short("`[a]` then `[`", "[a]", "[", text("a", "", "b")),
+    short("`[[:]`, unbroken", "[[:]", "", text("[", "", "b")),
+    long("`[[:[:...x]`, unbroken", ["[", "[:", "x]"], 1, "", text("x", "", "a")),
+    short("`*` then `[`", "*", "[", text("a", "", "b")),
+    short("`*a` then `[`", "*a", "[", text("a", "", "b")),
+    short("`**/` then `[`", "**/", "[", text("a/", "", "b")),
+    short("`**/a/` then `\\`", "**/a/", "\\", text("a/", "", "b")),
+];
+
+/// All families of the matcher.
+pub fn families() -> impl Iterator<Item = &'static Family> {
+    FAMILIES.iter().chain(READ_FAMILIES)
+}
 
 impl Family {
     /// The pattern of at most `size` bytes.

@@ -1,6 +1,6 @@
 //! Random bytes, long runs and sizes near the limits.
 use crate::check::Check;
-use crate::families::FAMILIES;
+use crate::families::families;
 use crate::matcher::Matcher;
 use crate::random::Random;
 
@@ -15,7 +15,7 @@ pub fn run<M: Matcher>(check: &mut Check<M>, random: &mut Random, small: u64, la
         let (pattern, text) = near_limits(random);
         check.case(&pattern, &text, random.below(4) as u64);
     }
-    for family in FAMILIES {
+    for family in families() {
         for (_, text) in family.texts(4096) {
             for flags in 0..4 {
                 check.case(&family.pattern(2048), &text, flags);

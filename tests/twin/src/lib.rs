@@ -45,6 +45,8 @@ pub mod archive;
 #[cfg(feature = "prober")]
 pub mod probed;
 
-// What asks the C calls: the questions' growth.
+// What asks the C calls: how a pattern's reading and the questions grow.
 #[cfg(feature = "fidshore")]
 pub mod growth;
+#[cfg(feature = "fidshore")]
+pub mod reading;

@@ -2,19 +2,20 @@
 //!
 //! usage: families [limit in ms, default 1000] [quick|full, default full]
 //!
-//! Exit status 1 if any call of the matcher is over the limit. Quick leaves
-//! out plain mode and the texts that may match. Then the questions, by the C
-//! calls: the usual ones, how the families grow and, in full, what they take
-//! by the path's depth.
+//! Exit status 1 if any call of the matcher is over the limit, or if reading a
+//! pattern that may be broken grows faster than the pattern. Quick leaves out
+//! plain mode and the texts that may match. Then the questions, by the C calls:
+//! the usual ones, how the families grow and, in full, what they take by the
+//! path's depth.
 use std::env::args;
 use std::process::exit;
 use std::time::Duration;
 use twin::asking::calls::code;
-use twin::families::{mode, Family, FAMILIES};
+use twin::families::{families, mode, Family};
 use twin::growth::{time, Growth};
 use twin::question_families::{deep_path, QuestionFamily, DEEP_FAMILIES, QUESTION_FAMILIES};
 use twin::timing::{about, least, microseconds, watch};
-use twin::usual;
+use twin::{reading, usual};
 
 /// Pattern bytes; the text has twice as many.
 const SIZES: [usize; 4] = [256, 512, 1024, 2048];
@@ -27,7 +28,7 @@ fn main() {
     println!("| family | mode | text | 256/512 | 512/1024 | 1024/2048 | 2048/4096 | last growth |");
     println!("|---|---|---|---|---|---|---|---|");
     let mut worst = (0.0, String::new());
-    for family in FAMILIES {
+    for family in families() {
         for flags in if quick { &[1u64, 3][..] } else { &[1, 3, 0, 2] } {
             for (kind, _) in family.texts(1024).iter().skip(quick as usize) {
                 let times = row(family, *flags, kind);
@@ -38,13 +39,14 @@ fn main() {
         }
     }
     backtracking_row();
+    let steep = reading::table();
     usual_questions();
     growing_questions(if quick { 0.5 } else { 5.0 });
     if !quick {
         deep_questions();
     }
     println!("\nfamilies: worst {:.1} ms ({}), limit {limit} ms", worst.0 / 1000.0, worst.1);
-    exit((worst.0 > limit * 1000.0) as i32);
+    exit((worst.0 > limit * 1000.0 || steep) as i32);
 }
 
 /// Times and prints one row; gives its times.

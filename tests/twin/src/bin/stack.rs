@@ -9,7 +9,7 @@ use std::env::args;
 use std::process::exit;
 use twin::archive::ask_bare;
 use twin::asking::calls::code;
-use twin::families::{mode, FAMILIES};
+use twin::families::{families, mode};
 use twin::growth::within;
 use twin::painted::Painted;
 use twin::question_families::{QuestionFamily, Size, QUESTION_FAMILIES};
@@ -45,7 +45,7 @@ fn of_matcher(stack: &Painted, limit: usize) -> bool {
     println!("| family | mode | bytes of stack |\n|---|---|---|");
     println!("| empty pattern and text | plain | {} |", stack.depth(&|| ask_bare(b"", b"", 0)));
     let mut most = Most::default();
-    for family in FAMILIES {
+    for family in families() {
         let pattern = family.pattern(2048);
         for flags in 0..4 {
             let texts = family.texts(4096);
