@@ -12,6 +12,9 @@ ROWS = pathlib.Path(__file__).resolve().parent.parent / "crates/tables/data/docu
 SEED = 20260314
 RULES_LIMIT = 65536
 SLOW_ROW = "148"    # takes most of git 2.39.5's time
+# The rows of 001 whose pattern is broken: document 01, "Patterns".
+BROKEN_ROWS = {"15", "62", "63", "64", "72", "83", "102", "103", "104", "105", "106", "108", "109", "127"}
+PATTERN_LIMIT = 2048
 
 LINES = (10, 30, 100, 300, 1000, 3000)
 COMPONENTS = (1, 2, 4, 8, 16, 32, 64)
@@ -118,13 +121,18 @@ def asked(rules, about):
     return [(rules, name, directory) for name, directory in about]
 
 
-def rows():
-    """The numbered rows of 001: number, pattern, text."""
+def every_row():
+    """All rows of 001: section, number, pattern, text, and whether it matches in path mode."""
     for line in ROWS.read_text().split("\n"):
         fields = line.split("\t")
-        if len(fields) == 4 and not line.startswith(("#", "1.13.")):
+        if len(fields) == 4 and not line.startswith("#"):
             pattern, text = (urllib.parse.unquote_to_bytes(field) for field in fields[1:3])
-            yield fields[0].split(".")[2], pattern, text
+            yield *fields[0].rsplit(".", 1), pattern, text, fields[3][0] == "1"
+
+
+def rows():
+    """The numbered rows of 001: number, pattern, text."""
+    return [(number, pattern, text) for section, number, pattern, text, _ in every_row() if section != "1.13"]
 
 
 def one(pattern, text):
@@ -178,14 +186,35 @@ def long_path(size):
     return b"x" + path[1:] if path.startswith(b"/") else path
 
 
+def rows_by_answer():
+    """All rows of 001 in path mode, by their answer: where nothing matches, the pattern may have to be read again (02, R-14)."""
+    columns = {"match": [], "no match": [], "broken": []}
+    for section, number, pattern, text, matches in every_row():
+        broken = section != "1.13" and number in BROKEN_ROWS
+        assert not (broken and matches)
+        columns["match" if matches else "broken" if broken else "no match"].append((pattern, text, 1))
+    assert {name: len(asks) for name, asks in columns.items()} == {"match": 108, "no match": 70, "broken": 14}
+    return Table("rows, by answer", "match", columns, growing=False)
+
+
+def broken_table():
+    """Patterns of the most bytes that are read to their end, or nearly; of an even number of `\\` the last is escaped."""
+    columns = {"`[`": b"[" * PATTERN_LIMIT, "`[[:[:`": (b"[[:" + b"[:" * PATTERN_LIMIT)[:PATTERN_LIMIT],
+               "`\\`": b"\\" * PATTERN_LIMIT, "`\\`, odd": b"\\" * (PATTERN_LIMIT - 1), "literal": b"a" * PATTERN_LIMIT}
+    return Table("broken", "match", {name: one(pattern, b"") for name, pattern in columns.items()}, growing=False)
+
+
 def sizes():
-    """Both questions over 10 lines, by the path's bytes; the matcher, by the stars of a run that crosses."""
+    """Both questions over 10 lines, by the path's bytes; the matcher, by the stars of a run that crosses, by its answer to
+    001's rows, and with patterns that are broken or nearly."""
     about = {size: [(long_path(size), 0)] for size in PATH_SIZES}
     ignore, attribute = lines(IGNORE, MORE_IGNORE, 10, SEED), lines(ATTRIBUTES, MORE_ATTRIBUTES, 10, SEED)
     runs = {stars: one(b"a/" + b"*" * stars + b"/b", b"a/x/y/b") for stars in RUN_STARS}
     return [Table("ignore, path", "ignore", {size: asked(ignore, about[size]) for size in PATH_SIZES}),
             Table("attribute, path", "attribute", {size: asked(attribute, about[size]) for size in PATH_SIZES}),
-            Table("run, stars", "match", runs)]
+            Table("run, stars", "match", runs),
+            rows_by_answer(),
+            broken_table()]
 
 
 def write(table, column, file):
