@@ -51,10 +51,13 @@ fn behind_items<M: Matcher>(check: &mut Check<M>) {
 }
 
 /// The broken item ends with the longest pattern's last byte; one of a single
-/// byte begins there. Before it stands an item of each kind, again and again.
+/// byte begins there. Before it stands an item of each kind, again and again;
+/// alone these are unbroken.
 fn at_the_limit<M: Matcher>(check: &mut Check<M>) {
     let ways = ways();
     for (front, _) in FRONTS {
+        check.case(filled(front, LIMIT).as_bytes(), b"\x01", 1);
+        check.expect_alone(filled(front, LIMIT).as_bytes(), None);
         for way in &ways {
             let place = LIMIT - way.len();
             broken(check, &[filled(front, place), way.clone()].concat().into_bytes(), b"a", place);

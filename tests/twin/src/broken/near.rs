@@ -3,7 +3,7 @@ use crate::answer::Answer;
 use crate::check::Check;
 use crate::matcher::Matcher;
 
-/// Pattern, text, and the code: in all modes.
+/// Pattern, text, and the code: in all modes. None of them takes a byte more.
 const NEAR: [(&str, &str, u32); 44] = [
     // Nothing to read, and what looks like the end of a class.
     ("", "", 1),
@@ -62,6 +62,7 @@ pub fn run<M: Matcher>(check: &mut Check<M>) {
     for (pattern, text, code) in NEAR {
         for flags in 0..4 {
             check.expect(pattern.as_bytes(), text.as_bytes(), flags, Answer::code(code));
+            check.expect(pattern.as_bytes(), format!("{text}\u{1}").as_bytes(), flags, Answer::code(0));
         }
         check.expect_alone(pattern.as_bytes(), None);
     }
