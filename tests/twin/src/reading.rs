@@ -6,11 +6,11 @@ use crate::timing::{about, least};
 
 const SIZES: [usize; 4] = [256, 512, 1024, 2048];
 /// Twice the pattern should take twice as long; in proportion to its square it
-/// would take four times. Held to it is the mean of the three doublings: a single
-/// one may be timed beside other work.
+/// would take four times. Held to it is the mean of three doublings.
 const STEEPEST: f64 = 3.0;
-/// Calls a time, so that reading the clock costs little.
-const CALLS: u32 = 100;
+/// Bytes that are read between two looks at the clock, so that these cost little
+/// and a time is as long at each size.
+const BYTES: usize = 16_384;
 
 /// Prints the times; gives whether any grows too fast.
 pub fn table() -> bool {
@@ -21,22 +21,25 @@ pub fn table() -> bool {
     steepest > STEEPEST
 }
 
-/// The sizes are timed in turn, three times, so that other work on the machine
-/// does not fall on one of them. Gives the growth a doubling.
+/// The sizes are timed in turn, three times; gives the least growth a doubling of
+/// the three rounds. Other work on the machine, or a clock that runs wrong, would
+/// have to fall on all of them.
 fn row(family: &Family) -> f64 {
-    let mut times = [f64::INFINITY; 4];
-    for _ in 0..3 {
-        times = std::array::from_fn(|i| times[i].min(time(family, SIZES[i])));
-    }
-    let growth = (times[3] / times[0]).cbrt();
-    let (code, cells) = (ask_bare(&family.pattern(2048), b"", 1), times.map(|time| format!("{time:.3}")).join(" | "));
-    println!("| {} | {code} | {cells} | x{growth:.1} |", family.name);
+    let rounds: [[f64; 4]; 3] = std::array::from_fn(|_| SIZES.map(|size| time(family, size)));
+    let growth = least_of(rounds.iter().map(|times| (times[3] / times[0]).cbrt()));
+    let cells = [0, 1, 2, 3].map(|size| format!("{:.3}", least_of(rounds.iter().map(|times| times[size]))));
+    let code = ask_bare(&family.pattern(2048), b"", 1);
+    println!("| {} | {code} | {} | x{growth:.1} |", family.name, cells.join(" | "));
     growth
+}
+
+fn least_of(numbers: impl Iterator<Item = f64>) -> f64 {
+    numbers.fold(f64::INFINITY, f64::min)
 }
 
 /// Microseconds of one call.
 fn time(family: &Family, size: usize) -> f64 {
     about(format!("{}, no text, {size} pattern bytes", family.name));
-    let pattern = family.pattern(size);
-    least(&|| (0..CALLS).map(|_| ask_bare(&pattern, b"", 1)).sum()) / CALLS as f64
+    let (pattern, calls) = (family.pattern(size), BYTES / size);
+    least(&|| (0..calls).map(|_| ask_bare(&pattern, b"", 1)).sum()) / calls as f64
 }
