@@ -94,7 +94,8 @@ extern "C" {
  *        read, as `[a-z` or one that ends in a lone `\`, whatever the text and
  *        the mode are; 16 plus refusal 7, 8 or 9, which come before broken. The
  *        questions do not tell: to them a broken pattern is one that does not
- *        match, and its line says nothing. To find such a line, ask here.
+ *        match, and its line says nothing. To find such a line, ask here with its
+ *        pattern.
  * Limits: 2,048 bytes of pattern, 4,096 of text. Both may be empty.
  * Stack: at most 143 KB. Time: about 35 ns for a short pattern; the work grows at
  * most as pattern times text, and no input found takes over 100 ms.
