@@ -16,7 +16,8 @@ use Rattle.classes.specs.Members.{Class, readClass, classSize}
 use Rattle.classes.proofs.ClassLaws.{class-size}
 use Rattle.wildmatch.proofs.Parts.{from, from-drop, length-from, getD-from}
 use Rattle.wildmatch.proofs.ReadLaws.{Sized, by-cases, item-sized}
-use Rattle.wildmatch.specs.Patterns.{Item, literal, any-byte, run, First, broken, item, stars, reachOf, readRun, readEscaped, readBracket, readItem, andItem, itemsAfter, itemsFrom, items, later, brokenAfter, brokenFrom, brokenAt}
+use Rattle.wildmatch.specs.Patterns.{Item, literal, any-byte, First, broken, item, stars, readRun, readEscaped, readBracket, readItem}
+use Rattle.wildmatch.specs.Patterns.{andItem, itemsAfter, itemsFrom, items, later, brokenAfter, brokenFrom, brokenAt}
 use Rattle.wildmatch.specs.Sharing.{Matches}
 use Rattle.wildmatch.specs.Answers.{readingOf}
 use Rattle.wildmatch.specs.Outcomes.{mayBreak, sizeOf, firstSize}
@@ -93,7 +94,7 @@ later-more : (i n : ℕ) (o : Option ℕ) → laterBy i (laterBy n o) ≡ laterB
 later-more i n none = refl
 later-more i n (some k) = rw (add-assoc i n k) refl
 
--- what stands before an item decides how far a run reaches, not how many bytes it has nor whether it is broken
+-- what stands before an item decides how far a run reaches, and not how many bytes the item has nor whether it is broken
 first-after : (a b : Bool) (x : ℕ) (p : List ℕ) (rest : ℕ → Option ℕ) → brokenAfter (readItem a x p) rest ≡ brokenAfter (readItem b x p) rest
 unfolding readItem readRun
 first-after a b x p rest = go (eqb x 92) (eqb x 63) (eqb x 42) (eqb x 91)

@@ -25,7 +25,10 @@ same-length : tie.Need-same-length
 same-length c = search needs
 
 returns-2 : tie.Need-returns-2
-returns-2 c = one-place _ _ _ _ (read-broken _ _ (sym (c .before .before .before .before .before .before .before .broken-at .ensures) ∙ c .before .before .before .before .before .place .given .1)) (c .before .before .put-broken .ensures)
+returns-2 c =
+    one-place _ _ _ _
+    (read-broken _ _ (sym (c .before .before .before .before .before .before .before .broken-at .ensures) ∙ c .before .before .before .before .before .place .given .1))
+    (c .before .before .put-broken .ensures)
 
 pub prober-broken-spec : {M : Type 1} → statement M
 prober-broken-spec =

@@ -8,7 +8,8 @@ use borrow.Author.Needs.{needs}
 use Rattle.wildmatch.proofs.answer.wildmatch.Statement.{statement}
 use Rattle.wildmatch.proofs.answer.wildmatch.Tie as tie
 
--- what the tests for refusals leave, one after the other
+-- What the tests for refusals leave, one after the other.
+
 short : (d : tie.Else1) → TooLong (d .before .before .before .before .args .pattern .now) (d .before .before .before .before .args .text .now) → ⊥
 short d = said-false (d .before .too-long .ensures) (d .if1 .left)
 
@@ -18,8 +19,13 @@ no-zero d = said-false (d .before .holds-zero .ensures) (d .if2 .left)
 no-zero-in-text : (d : tie.Else3) → HoldsZero (d .before .before .before .before .before .before .before .before .args .text .now) → ⊥
 no-zero-in-text d = said-false (d .before .holds-zero2 .ensures) (d .if3 .left)
 
-accepted : (d : tie.Else4) → Accepted (MatcherRefuses (d .before .before .before .before .before .before .before .before .before .before .args .pattern .now) (d .before .before .before .before .before .before .before .before .before .before .args .text .now) (d .before .before .before .before .before .before .before .before .before .before .args .flags))
-accepted d = refuses-none _ _ _ (short (d .before .before .before .before .before .before)) (no-zero (d .before .before .before .before)) (no-zero-in-text (d .before .before)) (said-false (d .before .flags-high .ensures) (d .if4 .left))
+abbrev S : tie.Else4 → tie.Start
+S d = d .before .before .before .before .before .before .before .before .before .before
+
+accepted : (d : tie.Else4) → Accepted (MatcherRefuses (S d .args .pattern .now) (S d .args .text .now) (S d .args .flags))
+accepted d =
+    refuses-none _ _ _ (short (d .before .before .before .before .before .before)) (no-zero (d .before .before .before .before)) (no-zero-in-text (d .before .before))
+    (said-false (d .before .flags-high .ensures) (d .if4 .left))
 
 too-long-requires : tie.Need-too-long-requires
 too-long-requires c κs = search needs
@@ -46,7 +52,8 @@ returns-4 : tie.Need-returns-4
 returns-4 c =
     answers _ _ _ _
     (gives-refused _ _ _ _
-    (refuses-9 _ _ _ (short (c .before .before .before .before .before .before)) (no-zero (c .before .before .before .before)) (no-zero-in-text (c .before .before)) (c .before .flags-high .ensures .0 (c .if4 .taken))))
+    (refuses-9 _ _ _ (short (c .before .before .before .before .before .before)) (no-zero (c .before .before .before .before)) (no-zero-in-text (c .before .before))
+    (c .before .flags-high .ensures .0 (c .if4 .taken))))
 
 mode-of-requires : tie.Need-mode-of-requires
 mode-of-requires c κs = search needs
@@ -66,15 +73,16 @@ enum-told c = search needs
 enum-known-place : tie.Need-enum-known-place
 enum-known-place c = search needs
 
--- After-enum-told, At-match-keys1, After-broken-at, Else5, After-matches, After-mode-of, Else4
 returns-6 : tie.Need-returns-6
 returns-6 c =
     answers _ _ _ _
-    (gives-unmatched _ _ _ (accepted (c .before .before .before .before .before .before)) _ _ _ (c .before .before .before .before .before .mode-of .ensures) (c .before .before .before .before .matches .ensures) (c .before .before .before .if5 .left)
-    (c .before .before .broken-at .ensures) (c .enum-told .given .1))
+    (gives-unmatched _ _ _ (accepted (c .before .before .before .before .before .before)) _ _ _ (c .before .before .before .before .before .mode-of .ensures)
+    (c .before .before .before .before .matches .ensures) (c .before .before .before .if5 .left) (c .before .before .broken-at .ensures) (c .enum-told .given .1))
 
 returns-7 : tie.Need-returns-7
-returns-7 c = answers _ _ _ _ (gives-broken _ _ _ (accepted (c .before .before .before .before .before .before .before)) _ _ (c .before .before .before .broken-at .ensures) (c .before .place .given .1))
+returns-7 c =
+    answers _ _ _ _
+    (gives-broken _ _ _ (accepted (c .before .before .before .before .before .before .before)) _ _ (c .before .before .before .broken-at .ensures) (c .before .place .given .1))
 
 pub wildmatch-spec : {M : Type 1} → statement M
 wildmatch-spec =

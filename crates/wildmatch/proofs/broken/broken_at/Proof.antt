@@ -1,5 +1,7 @@
 -- `wildmatch::broken::broken_at` meets its contract: the place from the i-th byte on, counted from the start, is the pattern's.
-use Prim.Native.Nat.{_≤_, _-_}
+use mathlib.Core.Path.{_≡_}
+use mathlib.Core.List.{List}
+use Prim.Native.Nat.{ℕ, _+_, _≤_, _-_}
 use native.Mathlib.Omega.{arith}
 use lib.ListN.{length}
 use borrow.Author.Needs.{needs}
@@ -12,6 +14,19 @@ Inv-loop pattern i₀ i = (i ≤ length pattern) × Left pattern i
 
 abbrev μ-loop : tie.MeasureT-loop
 μ-loop pattern i₀ i = length pattern - i
+
+-- in the loop: the pattern, and the place of the byte that is looked at
+abbrev P : tie.In-loop Inv-loop μ-loop → List ℕ
+P d = d .before .before .before .args .pattern .now
+
+abbrev I : tie.In-loop Inv-loop μ-loop → ℕ
+I d = d .before .loop .i
+
+-- an escape or a class that can be read is passed
+passed : (d : tie.After-item-size Inv-loop μ-loop) → (d .item-size .result ≡ 0 → ⊥)
+    → (I (d .before .before .before .before .before) + d .item-size .result ≤ length (P (d .before .before .before .before .before)))
+    × Left (P (d .before .before .before .before .before)) (I (d .before .before .before .before .before) + d .item-size .result)
+passed d = left-item _ _ (d .before .before .before .before .before .loop-test .taken) (d .before .before .before .before .before .before .loop .inv .1) _ (d .item-size .ensures)
 
 loop-holds : tie.Need-loop-holds Inv-loop μ-loop
 loop-holds c = (search needs, left-all _)
@@ -32,23 +47,20 @@ part-item-size-end : tie.Need-part-item-size-end Inv-loop μ-loop
 part-item-size-end c = search needs
 
 item-size-requires : tie.Need-item-size-requires Inv-loop μ-loop
-item-size-requires c κs = may-break-from (c .before .before .before .before .before .before .before .args .pattern .now) _ (c .before .before .before .before .loop-test .taken) _ (c .before .before .may-break .ensures) (c .before .if1 .taken)
+item-size-requires c κs =
+    may-break-from (P (c .before .before .before .before)) _ (c .before .before .before .before .loop-test .taken) _ (c .before .before .may-break .ensures) (c .before .if1 .taken)
 
 returns : tie.Need-returns Inv-loop μ-loop
-returns c = left-broken _ _ (c .before .before .before .before .before .before .loop-test .taken) (c .before .before .before .before .before .before .before .loop .inv .1) _ (c .before .item-size .ensures) (c .if2 .taken)
+returns c = left-broken (P (c .before .before .before .before .before .before)) _ (c .before .before .before .before .before .before .loop-test .taken) (c .before .before .before .before .before .before .before .loop .inv .1) _ (c .before .item-size .ensures) (c .if2 .taken)
 
 add-i : tie.Need-add-i Inv-loop μ-loop
-add-i c =
-    let h = left-item _ _ (c .before .before .before .before .before .before .loop-test .taken) (c .before .before .before .before .before .before .before .loop .inv .1) _ (c .before .item-size .ensures) (c .if2 .left) in
-    omega (arith, h .0)
+add-i c = omega (arith, passed (c .before) (c .if2 .left) .0)
 
 loop-less : tie.Need-loop-less Inv-loop μ-loop
-loop-less c =
-    let h = left-item _ _ (c .before .before .before .before .before .before .loop-test .taken) (c .before .before .before .before .before .before .before .loop .inv .1) _ (c .before .item-size .ensures) (c .if2 .left) in
-    omega (arith, h .0)
+loop-less c = omega (arith, passed (c .before) (c .if2 .left) .0)
 
 loop-again : tie.Need-loop-again Inv-loop μ-loop
-loop-again c = left-item _ _ (c .before .before .before .before .before .before .loop-test .taken) (c .before .before .before .before .before .before .before .loop .inv .1) _ (c .before .item-size .ensures) (c .if2 .left)
+loop-again c = passed (c .before) (c .if2 .left)
 
 add-i-2 : tie.Need-add-i-2 Inv-loop μ-loop
 add-i-2 c = search needs

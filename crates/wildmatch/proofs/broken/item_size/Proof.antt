@@ -1,9 +1,19 @@
 -- `wildmatch::broken::item_size` meets its contract: an escape has two bytes, a class those up to its `]`, and a broken item none.
 use Rattle.wildmatch.proofs.BrokenLaws.{escape-open, escape-size, class-open, class-whole, class-within}
+use mathlib.Core.Path.{_≡_}
 use native.Mathlib.Omega.{arith}
+use lib.ListN.{getD}
 use borrow.Author.Needs.{needs}
 use Rattle.wildmatch.proofs.broken.item_size.Statement.{statement}
 use Rattle.wildmatch.proofs.broken.item_size.Tie as tie
+
+-- after the class's size was asked: the start, which has what was required
+abbrev S : tie.After-class-size → tie.Start
+S d = d .before .before .before .before .before
+
+-- no `\` stands first
+no-escape : (d : tie.After-class-size) → getD (S d .args .p .now) 0 0 ≡ 92 → ⊥
+no-escape d = d .before .before .if1 .left
 
 shared-slice-read-if1 : tie.Need-shared-slice-read-if1
 shared-slice-read-if1 c = search needs
@@ -27,15 +37,15 @@ class-size-requires : tie.Need-class-size-requires
 class-size-requires c κs = search needs
 
 returns-3 : tie.Need-returns-3
-returns-3 c = class-open _ (c .before .before .before .before .before .before .pre .0) (c .before .before .before .before .before .before .pre .1) (c .before .before .before .if1 .left) _ (c .before .class-size .ensures) (c .if3 .taken)
+returns-3 c = class-open _ (S (c .before) .pre .0) (S (c .before) .pre .1) (no-escape (c .before)) _ (c .before .class-size .ensures) (c .if3 .taken)
 
 add-result : tie.Need-add-result
 add-result c =
-    let h = class-within (c .before .before .before .before .before .before .args .p .now) (c .before .before .before .before .before .before .pre .0) (c .before .before .before .before .before .before .pre .1) (c .before .before .before .if1 .left) _
-    (c .before .class-size .ensures) in omega arith
+    let h = class-within (S (c .before) .args .p .now) (S (c .before) .pre .0) (S (c .before) .pre .1) (no-escape (c .before)) _ (c .before .class-size .ensures) in
+    omega arith
 
 returns-4 : tie.Need-returns-4
-returns-4 c = class-whole _ (c .before .before .before .before .before .before .pre .0) (c .before .before .before .before .before .before .pre .1) (c .before .before .before .if1 .left) _ (c .before .class-size .ensures) (c .if3 .left)
+returns-4 c = class-whole _ (S (c .before) .pre .0) (S (c .before) .pre .1) (no-escape (c .before)) _ (c .before .class-size .ensures) (c .if3 .left)
 
 pub item-size-spec : {M : Type 1} → statement M
 item-size-spec =
