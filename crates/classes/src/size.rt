@@ -17,14 +17,14 @@ fn single_size(n: usize, q: &[u8]) -> usize
     if q.len() < 2 {
         return n;
     }
-    if q[0] != 45 {
+    if q[0] != b'-' {
         return n;
     }
     let y = q[1];
-    if y == 93 {
+    if y == b']' {
         return n;
     }
-    if y != 92 {
+    if y != b'\\' {
         return n + 2;
     }
     if q.len() < 3 {
@@ -38,7 +38,7 @@ fn plain_size(q: &[u8]) -> usize
     requires { ⌜ (0 < length (now q)) × (startsName (now q) ≡ false) ⌝ }
     ensures { λ r. ⌜ Sized r (nextMember true (now (q .entry))) ⌝ }
 {
-    if q[0] != 92 {
+    if q[0] != b'\\' {
         return single_size(1, &q[1..]);
     }
     if q.len() < 2 {
@@ -54,7 +54,7 @@ fn starts_name(q: &[u8]) -> bool
     if q.len() < 2 {
         return false;
     }
-    q[0] == 91 && q[1] == 58
+    q[0] == b'[' && q[1] == b':'
 }
 
 // The place of the next `]` from the place `from` on; the end where there is none. `known` is it, unless it lies before `from`.
@@ -79,7 +79,7 @@ fn name_size(q: &[u8], n: usize) -> usize
     if n == 0 {
         return 1;
     }
-    if q[n - 1] != 58 {
+    if q[n - 1] != b':' {
         return 1;
     }
     if 12 <= which_name(&q[..n - 1]) {
@@ -96,7 +96,7 @@ pub fn members_size(q: &[u8]) -> usize
     let mut i = 0;
     let mut close = 0;
     while i < q.len() {
-        if q[i] == 93 && i != 0 {
+        if q[i] == b']' && i != 0 {
             return i + 1;
         }
         if starts_name(&q[i..]) {

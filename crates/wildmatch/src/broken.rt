@@ -18,7 +18,7 @@ pub enum Reading {
 fn may_break(c: u8) -> bool
     ensures { λ r. ⌜ r ≡ mayBreak c ⌝ }
 {
-    c == 92 || c == 91
+    c == b'\\' || c == b'['
 }
 
 // How many bytes the first item of p, an escape or a class, is written with; 0 where it is broken.
@@ -26,7 +26,7 @@ fn item_size(p: &[u8]) -> usize
     requires { ⌜ (0 < length (now p)) × (mayBreak (getD (now p) 0 0) ≡ true) ⌝ }
     ensures { λ r. ⌜ r ≡ firstSize (now (p .entry)) ⌝ }
 {
-    if p[0] == 92 {
+    if p[0] == b'\\' {
         if p.len() < 2 {
             return 0;
         }
