@@ -1,4 +1,5 @@
--- Demand 1 for the C calls: "Each refusal in the table is given exactly when its condition holds": no other answer has a refusal's code.
+-- From a C call's code back to its condition. Demand 1: "Each refusal in the table is given exactly when its condition holds": no other
+-- answer has a refusal's code; and of the matcher each other code too.
 use Prim.Native.Nat.{ℕ, _+_}
 use mathlib.Core.Path.{_≡_, refl, sym, ap, _∙_}
 use mathlib.Core.Logic.{_↔_}
@@ -47,7 +48,7 @@ attribute-refused path rules name flags code n c =
     let answer = attributeAnswer path rules (length rules ∷ []) (0 ∷ []) name flags in
     coded C code (c .answer .number) n (c .coded) (number-refused C answer (c .answer) n (c .answered .refused) (c .answered .accepted) (attribute-small path rules (length rules ∷ []) (0 ∷ []) name flags))
 
--- Each other code of the matcher exactly when: 01, "C results: matcher 0 or 1"; 02, R-14, "The matcher's C code 2 means broken".
+-- When the matcher has each of its other codes: 01, "C results: matcher 0 or 1"; 02, R-14, "The matcher's C code 2 means broken".
 module _ (pattern text : List ℕ) (flags code : ℕ) (c : MatchCode pattern text flags code) where
   -- "The matcher says yes exactly when the text can be shared out among the pattern's items": code 1
   pub match-yes : (code ≡ 1) ↔ (Accepted (MatcherRefuses pattern text flags) × Matches (modeOf flags) pattern text)

@@ -12,7 +12,7 @@ use Rattle.wildmatch.specs.Patterns.{brokenAt}
 use Rattle.wildmatch.specs.Sharing.{Matches}
 use Rattle.wildmatch.specs.Test.{matchesTest}
 use Rattle.wildmatch.specs.Meaning.{test-decides}
-use Rattle.wildmatch.specs.Answers.{modeOf, MatchDecided, Due, Given, Answered, readingOf}
+use Rattle.wildmatch.specs.Answers.{modeOf, MatchDecided, Due, Given, Answered, codeOf, valuesOf, readingOf}
 use Rattle.wildmatch.proofs.BrokenLaws.{broken-unmatched}
 use Rattle.wildmatch.specs.declared.Mode.{Mode}
 use Rattle.wildmatch.specs.declared.answer.Answer.{Answer}
@@ -35,9 +35,9 @@ unfolding readingOf
 read-unbroken none e = refl
 read-unbroken (some k) e = let z : _≡_ {A = ℕ} 0 1 = cc in absurd (omega arith)
 
--- no two answers are due at once
+-- no two answers are due at once, so two engines that are asked in a mode agree
 module _ (m : Mode) (p t : List ℕ) where
-  due-once : (a b : Answer) → Due m p t a → Due m p t b → a ≡ b
+  pub due-once : (a b : Answer) → Due m p t a → Due m p t b → a ≡ b
   unfolding Due
   due-once Unmatched Unmatched h k = refl
   due-once Unmatched Matched h k = absurd (h .1 k)
@@ -105,3 +105,23 @@ module _ (p t : List ℕ) (f : ℕ) where
   pub answered-once : (a b : Answer) → Answered p t f a → Answered p t f b → a ≡ b
   unfolding Answered
   answered-once a b h k = sym (k a .1 (h a .0 refl))
+
+-- an answer is fixed by its number and values
+pub answer-fixed : (a b : Answer) → codeOf a ≡ codeOf b → valuesOf a ≡ valuesOf b → a ≡ b
+unfolding codeOf valuesOf
+answer-fixed Unmatched Unmatched e v = refl
+answer-fixed Unmatched Matched e v = absurd (omega arith)
+answer-fixed Unmatched (Broken k) e v = absurd (omega arith)
+answer-fixed Unmatched (Refused k) e v = absurd (omega arith)
+answer-fixed Matched Unmatched e v = absurd (omega arith)
+answer-fixed Matched Matched e v = refl
+answer-fixed Matched (Broken k) e v = absurd (omega arith)
+answer-fixed Matched (Refused k) e v = absurd (omega arith)
+answer-fixed (Broken n) Unmatched e v = absurd (omega arith)
+answer-fixed (Broken n) Matched e v = absurd (omega arith)
+answer-fixed (Broken n) (Broken k) e v = let q : n ≡ k = cc in ap Broken q
+answer-fixed (Broken n) (Refused k) e v = absurd (omega arith)
+answer-fixed (Refused n) Unmatched e v = absurd (omega arith)
+answer-fixed (Refused n) Matched e v = absurd (omega arith)
+answer-fixed (Refused n) (Broken k) e v = absurd (omega arith)
+answer-fixed (Refused n) (Refused k) e v = let q : n ≡ k = omega arith in ap Refused q

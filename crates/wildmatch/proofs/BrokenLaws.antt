@@ -66,6 +66,45 @@ broken-place p = go (items p) (brokenAt p) refl refl (alike p 0 true)
     go (some its) none e f h = (λ q. let z : _≡_ {A = ℕ} 0 1 = cc in absurd (omega arith), λ q. let z : _≡_ {A = ℕ} 0 1 = cc in absurd (omega arith))
     go (some its) (some n) e f h = absurd h
 
+-- and read into items exactly where there is none
+pub unbroken-items : (p : List ℕ) → (brokenAt p ≡ none) ↔ ((its : List Item) × (items p ≡ some its))
+unbroken-items p = go (items p) (brokenAt p) refl refl (alike p 0 true)
+  where
+    go : (o : Option (List Item)) (b : Option ℕ) → items p ≡ o → brokenAt p ≡ b → Alike o b → (brokenAt p ≡ none) ↔ ((its : List Item) × (items p ≡ some its))
+    go none none e f h = absurd h
+    go none (some n) e f h = (λ q. let z : _≡_ {A = ℕ} 0 1 = cc in absurd (omega arith), λ q. let z : _≡_ {A = ℕ} 0 1 = cc in absurd (omega arith))
+    go (some its) none e f h = (λ q. (its, e), λ q. f)
+    go (some its) (some n) e f h = absurd h
+
+-- the item that would begin a pattern is broken
+abbrev pub BrokenHere : List ℕ → Type 0
+BrokenHere [] = ⊥
+BrokenHere (x ∷ p) = (after : Bool) × (readItem after x p ≡ broken)
+
+later-some : (o : Option ℕ) (n : ℕ) → later o ≡ some n → (k : ℕ) × (o ≡ some k) × (n ≡ suc k)
+later-some none n e = let z : _≡_ {A = ℕ} 0 1 = cc in absurd (omega arith)
+later-some (some k) n e = let q : n ≡ suc k = cc in (k, refl, q)
+
+-- from a place counted from one byte later
+one-later : (x : ℕ) (p : List ℕ) (o : Option ℕ) (n : ℕ) → later o ≡ some n → ((k : ℕ) → o ≡ some k → (k < length p) × BrokenHere (drop k p))
+    → (n < length (x ∷ p)) × BrokenHere (drop n (x ∷ p))
+one-later x p o n e h = let s = later-some o n e in let r = h (s .0) (s .1) in rw (s .2) (omega (arith, r .0), r .1)
+
+place-from : (p : List ℕ) (k : ℕ) (after : Bool) (n : ℕ) → brokenFrom p k after ≡ some n → (n < length p) × BrokenHere (drop n p)
+unfolding brokenFrom
+place-from [] k after n e = let z : _≡_ {A = ℕ} 0 1 = cc in absurd (omega arith)
+place-from (x ∷ p) zero after n e = go (readItem after x p) refl (λ k j. place-from p k (eqb x 47) j) e
+  where
+    go : (f : First) → readItem after x p ≡ f → ((k j : ℕ) → brokenFrom p k (eqb x 47) ≡ some j → (j < length p) × BrokenHere (drop j p))
+        → brokenAfter f (λ n. brokenFrom p n (eqb x 47)) ≡ some n → (n < length (x ∷ p)) × BrokenHere (drop n (x ∷ p))
+    go broken q r e = let z : n ≡ 0 = cc in rw z (omega arith, (after, q))
+    go (item it m) q r e = one-later x p (brokenFrom p (pred m) (eqb x 47)) n e (r (pred m))
+place-from (x ∷ p) (suc k) after n e = one-later x p (brokenFrom p k (eqb x 47)) n e (place-from p k (eqb x 47))
+
+-- the place is one of the pattern's, and the item that begins there is broken
+pub place-begins : (p : List ℕ) (place : ℕ) → brokenAt p ≡ some place → (place < length p) × BrokenHere (drop place p)
+place-begins p place e = place-from p 0 true place e
+
 -- "A broken pattern matches nothing."
 pub broken-unmatched : (m : Mode) (p t : List ℕ) (place : ℕ) → brokenAt p ≡ some place → Matches m p t → ⊥
 unfolding Matches
@@ -121,15 +160,15 @@ place-drop (x ∷ p) zero after = same-place (x ∷ p) 0 after true ∙ later-ze
 place-drop (x ∷ p) (suc k) after = ap later (place-drop p k (eqb x 47)) ∙ later-suc k (brokenFrom (drop k p) 0 true)
 
 -- the first item is broken, or its bytes are passed
-abbrev Passed : List ℕ → First → Type 0
-Passed p broken = brokenFrom p 0 true ≡ some 0
-Passed p (item it n) = (1 ≤ n) × (n ≤ length p) × (brokenFrom p 0 true ≡ laterBy n (brokenFrom (drop n p) 0 true))
+abbrev FirstPassed : List ℕ → First → Type 0
+FirstPassed p broken = brokenFrom p 0 true ≡ some 0
+FirstPassed p (item it n) = (1 ≤ n) × (n ≤ length p) × (brokenFrom p 0 true ≡ laterBy n (brokenFrom (drop n p) 0 true))
 
-item-passed : (x : ℕ) (p : List ℕ) → Passed (x ∷ p) (readItem false x p)
+item-passed : (x : ℕ) (p : List ℕ) → FirstPassed (x ∷ p) (readItem false x p)
 unfolding brokenFrom
 item-passed x p = go (readItem false x p) refl (item-sized false x p)
   where
-    go : (f : First) → readItem false x p ≡ f → Sized false (x ∷ p) f → Passed (x ∷ p) f
+    go : (f : First) → readItem false x p ≡ f → Sized false (x ∷ p) f → FirstPassed (x ∷ p) f
     go broken e s = same-place (x ∷ p) 0 true false ∙ ap (λ (f : First). brokenAfter f (λ n. brokenFrom p n (eqb x 47))) e
     go (item it zero) e s = absurd (omega (arith, s .0))
     go (item it (suc n)) e s = (
@@ -249,7 +288,7 @@ module _ (p : List ℕ) (i : ℕ) (h : i < length p) (s : Left p i) where
   pub left-byte : (b : Bool) → b ≡ mayBreak (getD p i 0) → b ≡ false → Left p (i + 1)
   left-byte b e f = more 1 (rw (drop-cons p i 0 h) (byte-passed (getD p i 0) (drop (suc i) p) (sym e ∙ f)))
 
-  first : Passed (drop i p) (readItem false (getD p i 0) (drop (suc i) p))
+  first : FirstPassed (drop i p) (readItem false (getD p i 0) (drop (suc i) p))
   first = rw (drop-cons p i 0 h) (item-passed (getD p i 0) (drop (suc i) p))
 
   module _ (n : ℕ) (e : n ≡ firstSize (from i p)) where
@@ -261,7 +300,7 @@ module _ (p : List ℕ) (i : ℕ) (h : i < length p) (s : Left p i) where
     unfolding Left readingOf sizeOf
     left-broken z = go (readItem false (getD p i 0) (drop (suc i) p)) first (sym z ∙ size)
       where
-        go : (f : First) → Passed (drop i p) f → 0 ≡ sizeOf f → Broken i ≡ readingOf (brokenAt p)
+        go : (f : First) → FirstPassed (drop i p) f → 0 ≡ sizeOf f → Broken i ≡ readingOf (brokenAt p)
         go broken k q = sym (ap readingOf (s ∙ ap (laterBy i) k ∙ ap some (add-zero i)))
         go (item it m) k q = absurd (omega (arith, k .0))
 
@@ -269,6 +308,6 @@ module _ (p : List ℕ) (i : ℕ) (h : i < length p) (s : Left p i) where
     unfolding sizeOf
     left-item d = go (readItem false (getD p i 0) (drop (suc i) p)) first size
       where
-        go : (f : First) → Passed (drop i p) f → n ≡ sizeOf f → (i + n ≤ length p) × Left p (i + n)
+        go : (f : First) → FirstPassed (drop i p) f → n ≡ sizeOf f → (i + n ≤ length p) × Left p (i + n)
         go broken k q = absurd (d q)
         go (item it m) k q = rw q (let l = length-drop i p in omega (arith, k .1), more m (k .2))

@@ -1,4 +1,4 @@
--- What the matcher answers, refusals included, and document 01's number for each answer.
+-- What the matcher answers, refusals included, and the papers' number and values for each answer.
 use Prim.Native.Nat.{ℕ, _+_}
 use mathlib.Core.Path.{_≡_}
 use mathlib.Core.Logic.{_↔_}
@@ -61,7 +61,7 @@ valuesOf Matched = []
 valuesOf (Broken place) = place ∷ []
 valuesOf (Refused n) = []
 
--- what the code answers for the place that was found. Only this names the code's answer
+-- what `broken_at` answers for the place that was found; no other definition names its type
 unfoldable pub readingOf : Option ℕ → Reading
 readingOf none = ReadUnbroken
 readingOf (some place) = ReadBroken place

@@ -6,7 +6,7 @@ use mathlib.Core.Bool.{Bool, true, false, cond, not, _&&_, false≢true}
 use mathlib.Core.List.{List, [], _∷_}
 use mathlib.Core.Option.{Option, none, some}
 use lib.Dec.{eqb}
-use borrow.Author.Tests.{eqb-true}
+use borrow.Author.Tests.{eqb-true, not-true}
 use Rattle.classes.specs.Letters.{folded}
 use Rattle.classes.specs.Names.{names, spans, named, sameBytes, whichName}
 use Rattle.classes.specs.Members.{lists, accepted, single, untilClose, nameAt, bracketAt, nextMember, members, readClass}
@@ -72,16 +72,12 @@ abbrev allAgree : List Frame → Bool
 allAgree [] = true
 allAgree (f ∷ fs) = (agrees f true true && (agrees f true false && (agrees f false true && agrees f false false))) && allAgree fs
 
-not-both : (b : Bool) → not b ≡ true → b ≡ true → ⊥
-not-both true e h = absurd (false≢true e)
-not-both false e h = absurd (false≢true h)
-
 due-by : (m : Mode) (p t : List ℕ) (a : Answer) → isDue a (brokenAt p) (matchesTest m p t) ≡ true → Due m p t a
 unfolding Due
 due-by m p t a e = go a (brokenAt p) refl e
   where
     go : (a : Answer) (o : Option ℕ) → brokenAt p ≡ o → isDue a o (matchesTest m p t) ≡ true → Due m p t a
-    go Unmatched none q e = (q, λ w. not-both _ e (test-decides m p t .1 w))
+    go Unmatched none q e = (q, λ w. absurd (false≢true (sym (not-true _ e) ∙ test-decides m p t .1 w)))
     go Unmatched (some n) q e = absurd (false≢true e)
     go Matched o q e = test-decides m p t .0 e
     go (Broken k) none q e = absurd (false≢true e)
