@@ -21,7 +21,7 @@ use wildmatch::answer::wildmatch;
 use wildmatch::broken::Reading;
 use wildmatch::broken::broken_at;
 
-// Puts a place in a pattern into the first entry, if there is one.
+// Puts a place in a pattern into the first entry of the list, if it has one.
 fn put_broken(place: usize, out: &mut [usize])
     ensures { λ _. ⌜ now (out .exit) ≡ put (place ∷ []) (now (out .entry)) ⌝ }
 {
@@ -124,8 +124,8 @@ fn put_attribute(answer: AttributeAnswer, out: &mut [usize])
     }
 }
 
-// The matcher. Where the pattern is broken, the first entry of `out` becomes the place where its first broken item begins; else, and where
-// it has none, it is left as it was.
+// The matcher. Where the pattern is broken, the first entry of `out`, if it has one, becomes the place where the first broken item begins;
+// nothing else in `out` changes.
 #[no_mangle]
 pub extern "C" fn prober_match(pattern: &[u8], text: &[u8], flags: u64, out: &mut [usize]) -> u32
     ensures { λ r. ⌜ MatchProbed (now (pattern .entry)) (now (text .entry)) flags r (now (out .entry)) (now (out .exit)) ⌝ }

@@ -68,22 +68,20 @@ fn is_expected(expected: &[u8], i: usize, got: &[u8]) -> bool {
     check::same(&expected[i..i + 1], got)
 }
 
-// Whether the matcher answers other than expected in the i-th mode; says so if it does.
+// Whether the matcher, asked with these flags, answers other than expected in the i-th mode; says so if it does.
 fn differs(
     label: &[u8],
     pattern: &[u8],
     text: &[u8],
+    flags: u64,
     i: usize,
     expected: &[u8],
     lenient: bool,
 ) -> bool {
-    if i >= 4 {
-        return true;
-    }
-    let flags = FLAGS[i];
-    let mut out = [0u8; 40];
+    let mut out = io::buffer();
     let n = written::matched(answer(pattern, text, flags, lenient), &mut out);
-    if n > 40 {
+    if n > 4096 {
+        report::difference(label, flags, expected, b"an answer too long to be written");
         return true;
     }
     if is_expected(expected, i, &out[0..n]) {
@@ -100,7 +98,7 @@ fn count_differing(label: &[u8], pattern: &[u8], text: &[u8], expected: &[u8], l
     let mut n: u64 = 0;
     let mut i = 0;
     while i < 4 {
-        if differs(label, pattern, text, i, expected, lenient) {
+        if differs(label, pattern, text, FLAGS[i], i, expected, lenient) {
             n += 1;
         }
         i += 1;

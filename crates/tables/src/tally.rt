@@ -8,8 +8,8 @@ use crate::report;
 use crate::row;
 use crate::row::Outcome;
 
-// What the rows of a file are: pairs for the matcher, or questions. Document 001 knows no broken patterns: its tables read broken as
-// no match.
+// What the rows of a file are: pairs for the matcher, or questions. Document 001's tables have no third answer: broken is 0 there (02,
+// R-14).
 pub enum Table {
     Matches001,
     Matches,

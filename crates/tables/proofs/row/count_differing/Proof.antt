@@ -14,6 +14,12 @@ abbrev μ-loop : tie.MeasureT-loop
 loop-holds : tie.Need-loop-holds Inv-loop μ-loop
 loop-holds c = search needs
 
+mul-differs : tie.Need-mul-differs Inv-loop μ-loop
+mul-differs c = search needs
+
+array-read-differs : tie.Need-array-read-differs Inv-loop μ-loop
+array-read-differs c = search needs
+
 differs-requires : tie.Need-differs-requires Inv-loop μ-loop
 differs-requires c κs = search needs
 
@@ -39,6 +45,8 @@ count-differing-spec =
     Inv-loop
     μ-loop
     loop-holds
+    mul-differs
+    array-read-differs
     differs-requires
     add-n
     add-i
