@@ -91,8 +91,8 @@ unfoldable pub Left : List ℕ → ℕ → Type 0
 Left q i = membersSize (members q 0 true) ≡ membersSize (longerBy i (members (drop i q) 0 (eqb i 0)))
 
 -- and the place k of the next `]` is kept
-abbrev pub Reading : List ℕ → ℕ → ℕ → Type 0
-Reading q i k = (i ≤ length q) × Left q i × NextClose q (i + 2) k
+abbrev pub ReadTo : List ℕ → ℕ → ℕ → Type 0
+ReadTo q i k = (i ≤ length q) × Left q i × NextClose q (i + 2) k
 
 pub left-all : (q : List ℕ) → Left q 0
 unfolding Left
@@ -113,7 +113,7 @@ with-size b i n (some r) = omega arith
 
 -- one turn of the loop, with the code's answer n for what stands next: the class is broken, or the member fits and is passed
 abbrev pub Turn : List ℕ → ℕ → ℕ → ℕ → Type 0
-Turn q i n k = (n ≡ 0 → membersSize (members q 0 true) ≡ 0) × ((n ≡ 0 → ⊥) → (1 ≤ n) × Reading q (i + n) k)
+Turn q i n k = (n ≡ 0 → membersSize (members q 0 true) ≡ 0) × ((n ≡ 0 → ⊥) → (1 ≤ n) × ReadTo q (i + n) k)
 
 module _ (q : List ℕ) (i n k : ℕ) (h : i < length q) (l : Left q i) (c : NextClose q (i + 2) k) where
   left-step : (s : Step) → nextMember (eqb i 0) (drop i q) ≡ s → Sized n s → Within (drop i q) s → Turn q i n k

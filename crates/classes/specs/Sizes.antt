@@ -14,7 +14,7 @@ Sized r close = ⊥
 Sized r broken = r ≡ 0
 Sized r (member m n) = r ≡ n
 
--- the bytes of all members, the closing `]` included; none where one is broken
+-- the bytes of all members, the closing `]` included; 0 where they cannot be read
 abbrev pub membersSize : Option Members → ℕ
 membersSize none = 0
 membersSize (some r) = r .size

@@ -88,8 +88,8 @@ fn name_size(q: &[u8], n: usize) -> usize
     3 + n
 }
 
-// All members up to the closing `]`, which counts; 0 where one of them is broken. The place of the next `]` is kept, so that it is
-// searched once for all the `[:` before it.
+// All members up to the closing `]`, which counts; 0 where one of them is broken or no `]` closes. The place of the next `]` is kept,
+// so that it is searched once for all the `[:` before it.
 pub fn members_size(q: &[u8]) -> usize
     ensures { λ r. ⌜ r ≡ membersSize (members (now (q .entry)) 0 true) ⌝ }
 {

@@ -21,15 +21,39 @@ measured : (d : tie.After-members-size)
     (d .members-size .result) (readClass (d .before .before .before .before .before .before .args .q .now))
 measured d = class-measured _ _ _ (start (d .before .before .before)) (d .members-size .ensures)
 
+is-negated-requires : tie.Need-is-negated-requires
+is-negated-requires c κs = search needs
+
+sub-members-size : tie.Need-sub-members-size
+sub-members-size c = let h = start-within _ _ (start (c .before)) in omega arith
+
+part-members-size-start : tie.Need-part-members-size-start
+part-members-size-start c = let h = start-within _ _ (start (c .before)) in omega arith
+
+part-members-size-end : tie.Need-part-members-size-end
+part-members-size-end c = search needs
+
+members-size-requires : tie.Need-members-size-requires
+members-size-requires c κs = search needs
+
+add-result : tie.Need-add-result
+add-result c = let h = measured (c .before) .0 in omega arith
+
+returns : tie.Need-returns
+returns c = let h = measured (c .before) .1 (c .if2 .taken) in omega arith
+
+returns-2 : tie.Need-returns-2
+returns-2 c = let h = measured (c .before) .2 (c .if2 .left) in omega arith
+
 pub class-size-spec : {M : Type 1} → statement M
 class-size-spec =
     tie.close
     (tie.spec
-    (λ c κs. search needs)
-    (λ c. let h = start-within _ _ (start (c .before)) in omega arith)
-    (λ c. let h = start-within _ _ (start (c .before)) in omega arith)
-    (λ c. search needs)
-    (λ c κs. search needs)
-    (λ c. let h = measured (c .before) .0 in omega arith)
-    (λ c. let h = measured (c .before) .1 (c .if2 .taken) in omega arith)
-    (λ c. let h = measured (c .before) .2 (c .if2 .left) in omega arith))
+    is-negated-requires
+    sub-members-size
+    part-members-size-start
+    part-members-size-end
+    members-size-requires
+    add-result
+    returns
+    returns-2)

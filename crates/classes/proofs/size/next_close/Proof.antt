@@ -5,14 +5,35 @@ use Rattle.classes.proofs.MeasureLaws.{close-from}
 use Rattle.classes.proofs.size.next_close.Statement.{statement}
 use Rattle.classes.proofs.size.next_close.Tie as tie
 
+returns : tie.Need-returns
+returns c = c .before .before .pre .1 (omega arith)
+
+sub-until-close : tie.Need-sub-until-close
+sub-until-close c = search needs
+
+part-until-close-start : tie.Need-part-until-close-start
+part-until-close-start c = search needs
+
+part-until-close-end : tie.Need-part-until-close-end
+part-until-close-end c = search needs
+
+until-close-requires : tie.Need-until-close-requires
+until-close-requires c κs = search needs
+
+add-result : tie.Need-add-result
+add-result c = let h = close-from (c .before .before .before .before .args .q .now) (c .before .before .before .before .args .from) _ (omega arith) (c .until-close .ensures) in omega arith
+
+returns-2 : tie.Need-returns-2
+returns-2 c = let h = close-from (c .before .before .before .before .args .q .now) (c .before .before .before .before .args .from) _ (omega arith) (c .until-close .ensures) in omega arith
+
 pub next-close-spec : {M : Type 1} → statement M
 next-close-spec =
     tie.close
     (tie.spec
-    (λ c. c .before .before .pre .1 (omega arith))
-    (λ c. search needs)
-    (λ c. search needs)
-    (λ c. search needs)
-    (λ c κs. search needs)
-    (λ c. let h = close-from (c .before .before .before .before .args .q .now) (c .before .before .before .before .args .from) _ (omega arith) (c .until-close .ensures) in omega arith)
-    (λ c. let h = close-from (c .before .before .before .before .args .q .now) (c .before .before .before .before .args .from) _ (omega arith) (c .until-close .ensures) in omega arith))
+    returns
+    sub-until-close
+    part-until-close-start
+    part-until-close-end
+    until-close-requires
+    add-result
+    returns-2)

@@ -8,12 +8,21 @@ use borrow.Author.Needs.{needs}
 use Rattle.classes.proofs.size.starts_name.Statement.{statement}
 use Rattle.classes.proofs.size.starts_name.Tie as tie
 
+returns : tie.Need-returns
+returns c = rw (List·getD-eq-default (c .before .args .q .now) 0 {n = 1} (omega arith), and-false) refl
+
+shared-slice-read-if2 : tie.Need-shared-slice-read-if2
+shared-slice-read-if2 c = search needs
+
+shared-slice-read-result : tie.Need-shared-slice-read-result
+shared-slice-read-result c = search needs
+
+returns-2 : tie.Need-returns-2
+returns-2 c = rw (eq-eqb _ 91 (c .before .if2 .taken)) refl
+
+returns-3 : tie.Need-returns-3
+returns-3 c = rw (ne-eqb _ 91 (c .if2 .left)) refl
+
 pub starts-name-spec : {M : Type 1} → statement M
 starts-name-spec =
-    tie.close
-    (tie.spec
-    (λ c. rw (List·getD-eq-default (c .before .args .q .now) 0 {n = 1} (omega arith), and-false) refl)
-    (λ c. search needs)
-    (λ c. search needs)
-    (λ c. rw (eq-eqb _ 91 (c .before .if2 .taken)) refl)
-    (λ c. rw (ne-eqb _ 91 (c .if2 .left)) refl))
+    tie.close (tie.spec returns shared-slice-read-if2 shared-slice-read-result returns-2 returns-3)
