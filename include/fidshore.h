@@ -52,7 +52,7 @@ extern "C" {
  * fidshore_attribute. */
 
 /* Codes of fidshore_match. A pattern that is broken, as `[a-z` without its `]`,
- * matches nothing; which byte is at fault is not told. */
+ * matches nothing; where it is broken is not told. */
 #define FIDSHORE_NO_MATCH 0
 #define FIDSHORE_MATCH 1
 #define FIDSHORE_BROKEN 2
@@ -92,13 +92,18 @@ extern "C" {
  *        FIDSHORE_FOLD (ASCII letters match in either case).
  * Codes: FIDSHORE_MATCH; FIDSHORE_NO_MATCH; FIDSHORE_BROKEN: the pattern cannot be
  *        read, as `[a-z` or one that ends in a lone `\`, whatever the text and
- *        the mode are; 16 plus refusal 7, 8 or 9, which come before broken. The
- *        questions do not tell: to them a broken pattern is one that does not
- *        match, and its line says nothing. To find such a line, ask here with its
- *        pattern.
+ *        the mode are; 16 plus refusal 7, 8 or 9, which come before broken.
+ *        Compare with FIDSHORE_MATCH: 2, too, is not 0.
+ *        The questions do not tell: to them a broken pattern is one that does not
+ *        match, and its line says nothing. To find such a line, ask here with no
+ *        text and the line's pattern: of an ignore line what is left without its
+ *        CR, trailing spaces that are not escaped, a first `!`, one last `/` and
+ *        one first `/`; of an attribute line the bytes from the first that is no
+ *        blank up to the next blank (space, tab, CR), without these slashes too.
  * Limits: 2,048 bytes of pattern, 4,096 of text. Both may be empty.
  * Stack: at most 143 KB. Time: about 35 ns for a short pattern; the work grows at
- * most as pattern times text, and no input found takes over 100 ms.
+ * most as pattern times text, and with no text the pattern is still read once. No
+ * input found takes over 100 ms.
  * Threads, buffers, null pointers: as said above.
  *
  *     static const uint8_t pattern[] = "2026*.nc", text[] = "2026/h05.nc";

@@ -2,8 +2,7 @@
  * patterns in the four modes, the rows of the two questions that C can ask, the
  * examples of the header, each way for a pattern to be broken, each refusal that C
  * can reach, on both sides of its limits, and for every argument no bytes and the
- * most. Prints one line; status 1 if any answer
- * differs or a row cannot be read.
+ * most. Prints one line; status 1 if any answer differs or a row cannot be read.
  *
  * usage: smoke MATCHES IGNORES ATTRIBUTES
  *
@@ -217,23 +216,33 @@ static void matcher_broken(void)
         pattern_is_broken((struct bytes){ long_room + 1, FIDSHORE_PATTERN_LIMIT });
         match((struct bytes){ long_room, sizeof long_room }, none, 0, FIDSHORE_REFUSED + 7);
     }
+    match(str("foo\\"), str("foo\\"), 0, FIDSHORE_BROKEN);
     match(BYTES("[\0"), str("a"), 0, FIDSHORE_REFUSED + 8);
 }
 
-/* Nearly broken. Each call has its own codes: 2 of a question is something else. */
+/* Nearly broken, and the empty pattern. */
 static void matcher_unbroken(void)
 {
     match(none, str("a"), 0, FIDSHORE_NO_MATCH);
     match(str("\\\\"), str("\\"), 0, FIDSHORE_MATCH);
+    match(str("foo\\/"), str("foo/"), 0, FIDSHORE_MATCH);
     match(str("\\[a-z"), str("[a-z"), 0, FIDSHORE_MATCH);
     match(str("[]]"), str("]"), 0, FIDSHORE_MATCH);
     match(str("[!]]"), str("]"), 0, FIDSHORE_NO_MATCH);
     match(str("[\\]]"), str("]"), 0, FIDSHORE_MATCH);
     match(str("[[:]"), str("["), 0, FIDSHORE_MATCH);
     match(str("[[=a=]]"), str("=]"), 0, FIDSHORE_MATCH);
+}
+
+/* To both questions a line with a broken pattern does not match; 2 is another
+ * answer there. `foo\/` as a line leaves `foo\`: its last `/` is not the pattern's. */
+static void broken_lines(void)
+{
     ignore(str("*\n![a-z\n"), str("q"), 0, FIDSHORE_IGNORED);
     ignore(str("*\n![a-z]\n"), str("q"), 0, FIDSHORE_RE_INCLUDED);
+    ignore(str("foo\\/\n"), str("foo\\"), FIDSHORE_DIRECTORY, FIDSHORE_NOTHING_SAID);
     attribute(str("* fill\n[a-z -fill\n"), str("q"), str("fill"), 0, FIDSHORE_SET);
+    attribute(str("foo\\/ fill\n"), str("foo\\"), str("fill"), FIDSHORE_DIRECTORY, FIDSHORE_NOTHING_SAID);
 }
 
 /* A text is no path: it and the pattern may hold every byte but 0. */
@@ -486,6 +495,7 @@ int main(int count, char **words)
     matcher_bytes();
     matcher_broken();
     matcher_unbroken();
+    broken_lines();
     header_examples();
     paths();
     path_lengths();

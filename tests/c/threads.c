@@ -86,8 +86,8 @@ static void usual(void)
 }
 
 /* The deepest known (docs/COSTS.md): `**` and `/` 681 times against 2,048
- * components; as many before a broken end; and a class that is broken at the
- * limit. The ignore question goes down to the top directory first and meets
+ * components; 682 times before a broken end; and a broken class that fills the
+ * pattern. The ignore question goes down to the top directory first and meets
  * the pattern there, so it is as deep when that directory is ignored at once. */
 static void deepest(void)
 {

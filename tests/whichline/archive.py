@@ -5,7 +5,7 @@ NAMES = [b"cal", b"sky", b"skyline", b"north", b"h07.jpg", b"h17.nc", b"a.tmp", 
 ODD_NAMES = [b'"q', b'"a\\b', b'"\\', b'"c d"', b"~", b'""', b"\\", b"[a]", b"*", b"!a", b"#a", b"...", b"-a", b"\x80", b"\xff", b" "]
 CLASSES = [b"[a-z]", b"[!x]", b"[^a-c]", b"[[:alpha:]]", b"[0-9h]", b"[![:digit:]]", b"[]c]"]
 # Where document 01 and git differ, or a line says nothing: the twin alone judges these.
-ODD_PATTERNS = [b"sk**/north", b"sk***/north", b"[", b"[[:x:]]", b"\\", b"\\Cal", b"[C]al", b"a\\ ", b"*.tmp \\", b"/", b"//", b"!", b"a//b", b"[[:space:]]", b"[sS-k]ky",
+ODD_PATTERNS = [b"sk**/north", b"sk***/north", b"[", b"[a-z", b"[[:x:]]", b"\\", b"cal\\/", b"\\Cal", b"[C]al", b"a\\ ", b"*.tmp \\", b"/", b"//", b"!", b"a//b", b"[[:space:]]", b"[sS-k]ky",
                 b"cal\t", b"[\x01-\x1f]", b"[!\x01-\x7f]"]
 ODD_ATTRIBUTES = [b"[attr]macro fill", b'"cal" fill', b"!cal fill", b"* -", b"* fill =v", b"* fill -fill fill=last", b"* fill=a=b", b"\t * \t fill\r", b"* fill=\x01\x7f"]
 BAD_PATHS = [b"", b"/", b"//", b"/cal", b"cal//a", b"cal//", b".", b"./cal", b"cal/..", b"cal/../sky", b"a\0b", b"sky/./north/",

@@ -8,7 +8,7 @@ use crate::items::{read, Item};
 pub const PATH: u64 = 1;
 pub const FOLD: u64 = 2;
 
-/// "Where several hold, the lowest is answered", and before broken.
+/// Refusals first, the lowest; then broken; then whether it matches.
 pub fn answer(pattern: &[u8], text: &[u8], flags: u64) -> Answer {
     match refusal(pattern, text, flags) {
         Some(number) => Answer::code(16 + number),
@@ -44,8 +44,8 @@ pub fn refusal(pattern: &[u8], text: &[u8], flags: u64) -> Option<u32> {
     None
 }
 
-/// "Otherwise it matches exactly when the text is the joining, in order, of what
-/// its items may take." Is it?
+/// Whether a pattern that is not broken matches: "exactly when the text is the
+/// joining, in order, of what its items may take".
 ///
 /// Cell (i, j) of the table: items 0..i may take exactly text bytes 0..j.
 pub fn joins(items: &[Item], text: &[u8], flags: u64) -> bool {

@@ -17,6 +17,7 @@ const LIMIT: usize = 2048;
 pub fn run<M: Matcher>(check: &mut Check<M>) {
     traps::run(check);
     near::run(check);
+    fronts(check);
     behind_items(check);
     at_the_limit(check);
     every_place(check);
@@ -37,13 +38,26 @@ fn ways() -> Vec<String> {
     UNCLOSED.into_iter().map(String::from).chain(named).collect()
 }
 
+/// The fronts alone take what they are said to, and nothing of what fails at once.
+fn fronts<M: Matcher>(check: &mut Check<M>) {
+    for (front, taken, failing) in FRONTS {
+        for flags in 0..4 {
+            check.expect(front.as_bytes(), taken.as_bytes(), flags, Answer::code(1));
+            for text in failing.into_iter().flat_map(|text| ["", text]) {
+                check.expect(front.as_bytes(), text.as_bytes(), flags, Answer::code(0));
+            }
+        }
+    }
+}
+
 /// Behind each kind of item, with a text that the items before take, the same
-/// with the broken item's own bytes, one that fails at once, and none.
+/// with the broken item's own bytes, one that fails at once, or any byte where
+/// there is none, and no text.
 fn behind_items<M: Matcher>(check: &mut Check<M>) {
     let ways = ways();
-    for (front, taken) in FRONTS {
+    for (front, taken, failing) in FRONTS {
         for way in &ways {
-            for text in [taken, &[taken, way].concat(), "\u{1}", ""] {
+            for text in [taken, &[taken, way].concat(), failing.unwrap_or("\u{1}"), ""] {
                 broken(check, [front, way].concat().as_bytes(), text.as_bytes(), front.len());
             }
         }
@@ -55,7 +69,7 @@ fn behind_items<M: Matcher>(check: &mut Check<M>) {
 /// alone these are unbroken.
 fn at_the_limit<M: Matcher>(check: &mut Check<M>) {
     let ways = ways();
-    for (front, _) in FRONTS {
+    for (front, ..) in FRONTS {
         check.case(filled(front, LIMIT).as_bytes(), b"\x01", 1);
         check.expect_alone(filled(front, LIMIT).as_bytes(), None);
         for way in &ways {
@@ -92,7 +106,7 @@ fn alone<M: Matcher>(check: &mut Check<M>) {
     check.expect_alone(b"\0[\0", Some(1));
     check.expect_alone(b"[\0-\\", Some(0));
     check.expect_alone(b"[[:alpha\0:]]", Some(0));
-    for (front, _) in FRONTS {
+    for (front, ..) in FRONTS {
         for len in [LIMIT + 1, 4097, 19_000] {
             let unbroken = filled(front, len);
             check.expect_alone(unbroken.as_bytes(), None);

@@ -11,7 +11,7 @@ const FLAGS: [u64; 5] = [1, 4, 7, 1 << 32, u64::MAX];
 pub fn run<M: Matcher>(check: &mut Check<M>) {
     let long_text = vec![b'a'; 4097];
     for way in ways() {
-        for (front, taken) in FRONTS {
+        for (front, taken, _) in FRONTS {
             let broken = [front, &way].concat().into_bytes();
             check.expect(&broken, taken.as_bytes(), 4, Answer::code(25));
             check.expect(&broken, b"a\0", 3, Answer::code(24));

@@ -17,7 +17,7 @@ const TRAPS: [(&str, &str, usize); 20] = [
     ("x[[:foo:]]", "x", 1),
     ("[a\\", "a", 0),
     ("[a[:foo:]", "a", 0),
-    // The place of a run before it, or the one after the byte before.
+    // The place of the run before it, or of the `/` between them.
     ("***[", "a", 3),
     ("a/**/[", "a/", 5),
     // Places counted in items, or a `\` that the escape before has used.

@@ -74,32 +74,39 @@ pub const NAMED: [&str; 17] = [
 /// What is not read any more, as it would be read: unbroken and broken.
 pub const BEHIND: [&str; 7] = ["", "a", "]", "*", "\\", "[", "[[:alpha:]]"];
 
-/// Items of each kind, alone and in a row, and what they take: in all modes.
-pub const FRONTS: [(&str, &str); 26] = [
-    ("", ""),
-    ("a", "a"),
-    ("]", "]"),
-    ("\\a", "a"),
-    ("\\\\", "\\"),
-    ("\\[", "["),
-    ("?", "x"),
-    ("*", "xy"),
-    ("**", "xy"),
-    ("***", "xy"),
-    ("**/", "x/"),
-    ("***/", "x/"),
-    ("a/**/", "a/x/"),
-    ("a/**\\/", "a/x/"),
-    ("[a]", "a"),
-    ("[!a]", "b"),
-    ("[^a-c]", "x"),
-    ("[[:alpha:]]", "a"),
-    ("[![:digit:]]", "a"),
-    ("[]]", "]"),
-    ("[!]]", "a"),
-    ("[\\]]", "]"),
-    ("[a-\\]]", "a"),
-    ("[[:]", ":"),
-    ("[[=a=]]", "=]"),
-    ("a?*\\b[c]", "axbc"),
+/// A byte that most fronts do not take.
+const CONTROL: Option<&str> = Some("\u{1}");
+
+/// Items of each kind, alone and in a row; what they take, in all modes; and a
+/// text that fails at once: in no mode do they take a beginning of it, also not
+/// the empty one. There is none where no item stands; for a run that stands first,
+/// since it may take nothing, in path mode with its slash; and for `?`, since in
+/// plain mode it takes every byte.
+pub const FRONTS: [(&str, &str, Option<&str>); 26] = [
+    ("", "", None),
+    ("a", "a", CONTROL),
+    ("]", "]", CONTROL),
+    ("\\a", "a", CONTROL),
+    ("\\\\", "\\", CONTROL),
+    ("\\[", "[", CONTROL),
+    ("?", "x", None),
+    ("*", "xy", None),
+    ("**", "xy", None),
+    ("***", "xy", None),
+    ("**/", "x/", None),
+    ("***/", "x/", None),
+    ("a/**/", "a/x/", CONTROL),
+    ("a/**\\/", "a/x/", CONTROL),
+    ("[a]", "a", CONTROL),
+    ("[!a]", "b", Some("a")),
+    ("[^a-c]", "x", Some("a")),
+    ("[[:alpha:]]", "a", CONTROL),
+    ("[![:digit:]]", "a", Some("1")),
+    ("[]]", "]", CONTROL),
+    ("[!]]", "a", Some("]")),
+    ("[\\]]", "]", CONTROL),
+    ("[a-\\]]", "a", CONTROL),
+    ("[[:]", ":", CONTROL),
+    ("[[=a=]]", "=]", CONTROL),
+    ("a?*\\b[c]", "axbc", CONTROL),
 ];
