@@ -101,7 +101,7 @@ extern "C" {
  *        one first `/`; of an attribute line the bytes from the first that is no
  *        blank up to the next blank (space, tab, CR), without these slashes too.
  * Limits: 2,048 bytes of pattern, 4,096 of text. Both may be empty.
- * Stack: at most 143 KB. Time: about 35 ns for a short pattern; the work grows at
+ * Stack: at most 143 KB. Time: about 40 ns for a short pattern; the work grows at
  * most as pattern times text, and with no text the pattern is still read once. No
  * input found takes over 100 ms.
  * Threads, buffers, null pointers: as said above.
