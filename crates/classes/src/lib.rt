@@ -3,5 +3,5 @@
 pub mod class;
 pub mod letters;
 mod members;
-mod names;
+pub mod names;
 mod size;

@@ -1,5 +1,5 @@
 -- What the outside tests get of the matcher and of a question: the complete answer's number, and its values at the front of a list that
--- they lend.
+-- they lend; and what they get of a class name.
 use Prim.Native.Nat.{ℕ}
 use mathlib.Core.Path.{_≡_}
 use mathlib.Core.Bool.{cond}
@@ -7,6 +7,7 @@ use mathlib.Core.List.{List, [], _∷_, _++_}
 use mathlib.Core.Option.{Option, none, some}
 use lib.Dec.{leb}
 use lib.ListN.{length, drop}
+use Rattle.classes.specs.Names.{named}
 use Rattle.wildmatch.specs.Patterns.{brokenAt}
 use Rattle.wildmatch.specs.Answers.{Answered, codeOf, valuesOf}
 use Rattle.wildmatch.specs.declared.answer.Answer.{Answer}
@@ -33,6 +34,10 @@ places (some place) = place ∷ []
 pub record BrokenProbed (pattern : List ℕ) (number : ℕ) (before after : List ℕ) : Type 0 where
   pub numbered : number ≡ length (places (brokenAt pattern))
   pub told : after ≡ put (places (brokenAt pattern)) before
+
+-- of the number of a class name and a byte: 1 where the name lists the byte, else 0
+unfoldable pub namedProbed : ℕ → ℕ → ℕ
+namedProbed k x = cond (named k x) 1 0
 
 -- of the ignore question: the number, and the list that was lent, before and after
 pub record IgnoreProbed (path rules ends bases : List ℕ) (flags number : ℕ) (before after : List ℕ) : Type 0 where

@@ -1,11 +1,12 @@
-// The matcher and both questions for the outside tests: the complete answer's number as the result, its values in a lent list.
+// The matcher and both questions for the outside tests: the complete answer's number as the result, its values in a lent list; and a class name's bytes.
 ghost use mathlib.Core.Path.{_≡_};
 ghost use mathlib.Core.List.{[], _∷_, _++_};
 ghost use Rattle.questions.specs.Complete.{placeValues, stateValues, completeIgnore, completeAttribute};
 ghost use Rattle.wildmatch.specs.Answers.{valuesOf};
-ghost use Rattle.prober.specs.Probes.{put, MatchProbed, BrokenProbed, IgnoreProbed, AttributeProbed};
+ghost use Rattle.prober.specs.Probes.{put, namedProbed, MatchProbed, BrokenProbed, IgnoreProbed, AttributeProbed};
 use attributelines::Span;
 use attributelines::State;
+use classes::names::name_has;
 use questions::AttributeAnswer;
 use questions::Decided;
 use questions::IgnoreAnswer;
@@ -147,6 +148,14 @@ pub extern "C" fn prober_broken(pattern: &[u8], out: &mut [usize]) -> u32
             1
         }
     }
+}
+
+// Whether the k-th of the twelve class names lists the byte x: 1 or 0.
+#[no_mangle]
+pub extern "C" fn prober_named(k: usize, x: u8) -> u32
+    ensures { λ r. ⌜ r ≡ namedProbed k x ⌝ }
+{
+    if name_has(k, x) { 1 } else { 0 }
 }
 
 // The ignore question. Where something is said, the first three entries of `out` become the entry's length, the file and

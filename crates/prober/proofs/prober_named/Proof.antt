@@ -1,0 +1,20 @@
+-- `prober::prober_named` meets its contract: 1 where the name lists the byte, else 0.
+use mathlib.Core.Path.{refl, sym, _∙_}
+use borrow.Author.Needs.{needs}
+use Rattle.prober.specs.Probes.{namedProbed}
+use Rattle.prober.proofs.prober_named.Statement.{statement}
+use Rattle.prober.proofs.prober_named.Tie as tie
+
+name-has-requires : tie.Need-name-has-requires
+name-has-requires c κs = search needs
+
+returns : tie.Need-returns
+unfolding namedProbed
+returns c = rw (sym (c .before .name-has .ensures) ∙ c .if1 .taken) refl
+
+returns-2 : tie.Need-returns-2
+unfolding namedProbed
+returns-2 c = rw (sym (c .before .name-has .ensures) ∙ c .if1 .left) refl
+
+pub prober-named-spec : {M : Type 1} → statement M
+prober-named-spec = tie.close (tie.spec name-has-requires returns returns-2)
