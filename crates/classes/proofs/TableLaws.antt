@@ -1,9 +1,13 @@
 -- A test of every number below a bound, which is computed, and what it says of each: a table's rule is one such test.
-use mathlib.Core.Path.{_≡_, refl, ap, _∙_}
+-- And what is known of a place for which no arm of a `match` stands.
+use mathlib.Core.Path.{_≡_, refl, sym, ap, _∙_}
 use mathlib.Core.Logic.{⊎-elim}
 use mathlib.Core.Bool.{Bool, true, false, _&&_, false≢true}
-use Prim.Native.Nat.{ℕ, zero, suc, _<_}
+use mathlib.Core.List.{List}
+use Prim.Native.Nat.{ℕ, zero, suc, _<_, _≤_}
 use native.Mathlib.Nat.{not-suc-le-zero, le-of-suc-le-suc, eq-or-lt-of-le}
+use native.Mathlib.Omega.{arith}
+use lib.ListN.{length, getD, List·getD-eq-default}
 
 abbrev pub allBelow : ℕ → (ℕ → Bool) → Bool
 allBelow zero f = true
@@ -22,3 +26,16 @@ all-at (suc n) f e k h =
 -- the same of a table with rows of m entries
 pub all-at-rows : (n m : ℕ) (f : ℕ → ℕ → Bool) → allBelow n (λ k. allBelow m (f k)) ≡ true → (k j : ℕ) → k < n → j < m → f k j ≡ true
 all-at-rows n m f e k j hk hj = all-at m (f k) (all-at n (λ i. allBelow m (f i)) e k hk) j hj
+
+-- k is none of the numbers below n, each said by an arm
+abbrev NoneBelow : ℕ → ℕ → Type 0
+NoneBelow zero k = Unit {0}
+NoneBelow (suc n) k = NoneBelow n k × (k ≡ n → ⊥)
+
+none-below : (n k : ℕ) → NoneBelow n k → n ≤ k
+none-below zero k h = omega arith
+none-below (suc n) k h = let l = none-below n k (h .0) in let e = h .1 in omega arith
+
+-- then a table of n rows has none for it
+pub no-row : (rows : List ℕ) (n k : ℕ) → length rows ≡ n → NoneBelow n k → 0 ≡ getD rows k 0
+no-row rows n k e h = let l = none-below n k h in sym (List·getD-eq-default rows 0 (omega arith))

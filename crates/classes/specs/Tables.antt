@@ -1,27 +1,9 @@
--- How the code holds the names and their ranges, one number for each name: only private functions' contracts cite these.
+-- How the code holds the names, one number for each: only private functions' contracts cite these.
 use Prim.Native.Nat.{ℕ, _+_, _*_}
 use mathlib.Core.Bool.{cond}
 use mathlib.Core.List.{List, [], _∷_}
 use lib.Dec.{leb}
 use lib.ListN.{length}
-
--- the ranges of each name, in the order of `names`: four of 16 bits, the first lowest, each with its first byte above its last.
--- 0x0100 where there are fewer, a range of no byte
-abbrev pub rangeRows : List ℕ
-rangeRows =
-    0x0100_617a_415a_3039
-    ∷ 0x0100_0100_617a_415a
-    ∷ 0x0100_0100_2020_0909
-    ∷ 0x0100_0100_7f7f_001f
-    ∷ 0x0100_0100_0100_3039
-    ∷ 0x0100_0100_0100_217e
-    ∷ 0x0100_0100_0100_617a
-    ∷ 0x0100_0100_0100_207e
-    ∷ 0x7b7e_5b60_3a40_212f
-    ∷ 0x0100_0100_2020_090d
-    ∷ 0x0100_0100_0100_415a
-    ∷ 0x0100_6166_4146_3039
-    ∷ []
 
 -- the bytes as one number, the first lowest, and a 1 above the last
 unfoldable pub packed : List ℕ → ℕ

@@ -1,25 +1,71 @@
-// The twelve class names and the bytes that each lists, in two constant tables with a number for each name.
+// The twelve class names and the bytes that each lists, in constant tables with a row for each name.
 ghost use mathlib.Core.Path.{_≡_};
 ghost use Prim.Native.Nat.{_<_};
 ghost use lib.ListN.{length, getD};
 ghost use Rattle.classes.specs.Names.{named, whichName};
-ghost use Rattle.classes.specs.Tables.{rangeRows, wordOf, nameWords};
+ghost use Rattle.classes.specs.Tables.{wordOf, nameWords};
 
-// The ranges of each name: four of 16 bits, the first lowest, each with its first byte in its upper half.
-// 0x0100 where there are fewer, a range of no byte.
-const RANGES: [u64; 12] = [
-    0x0100_617a_415a_3039, // alnum
-    0x0100_0100_617a_415a, // alpha
-    0x0100_0100_2020_0909, // blank
-    0x0100_0100_7f7f_001f, // cntrl
-    0x0100_0100_0100_3039, // digit
-    0x0100_0100_0100_217e, // graph
-    0x0100_0100_0100_617a, // lower
-    0x0100_0100_0100_207e, // print
-    0x7b7e_5b60_3a40_212f, // punct
-    0x0100_0100_2020_090d, // space
-    0x0100_0100_0100_415a, // upper
-    0x0100_6166_4146_3039, // xdigit
+// Ranges of bytes, a bit for each byte: from `first` to `last` it is `ALL << first & ALL >> (63 - last)`.
+// Bytes from 64 on are counted from there.
+const ALL: u64 = 0xffff_ffff_ffff_ffff;
+
+const TAB_TO_CR: u64 = ALL << b'\t' & ALL >> (63 - b'\r');
+
+const DIGITS: u64 = ALL << b'0' & ALL >> (63 - b'9');
+
+const UPPER: u64 = ALL << (b'A' - 64) & ALL >> (127 - b'Z');
+
+const LOWER: u64 = ALL << (b'a' - 64) & ALL >> (127 - b'z');
+
+const UPPER_TO_F: u64 = ALL << (b'A' - 64) & ALL >> (127 - b'F');
+
+const LOWER_TO_F: u64 = ALL << (b'a' - 64) & ALL >> (127 - b'f');
+
+const SIGNS_AFTER_UPPER: u64 = ALL << (b'[' - 64) & ALL >> (127 - b'`');
+
+const SIGNS_AFTER_LOWER: u64 = ALL << (b'{' - 64) & ALL >> (127 - b'~');
+
+// The bytes of each name in two rows: those below 64, and those from 64 to 127. From 128 on no name has any.
+const BITS: [u64; 26] = [
+    // alnum
+    DIGITS,
+    UPPER | LOWER,
+    // alpha
+    0,
+    UPPER | LOWER,
+    // blank
+    1 << b'\t' | 1 << b' ',
+    0,
+    // cntrl
+    ALL >> (63 - 31),
+    1 << (127 - 64),
+    // digit
+    DIGITS,
+    0,
+    // graph
+    ALL << b'!',
+    ALL >> (127 - b'~'),
+    // lower
+    0,
+    LOWER,
+    // print
+    ALL << b' ',
+    ALL >> (127 - b'~'),
+    // punct
+    ALL << b'!' & ALL >> (63 - b'/') | ALL << b':',
+    ALL >> (127 - b'@') | SIGNS_AFTER_UPPER | SIGNS_AFTER_LOWER,
+    // space
+    TAB_TO_CR | 1 << b' ',
+    0,
+    // upper
+    0,
+    UPPER,
+    // xdigit
+    DIGITS,
+    UPPER_TO_F | LOWER_TO_F,
+    // none: here a byte from 128 on would stand for the last name
+    0,
+    0,
 ];
 
 // The letters of each name: the first lowest, and a 1 above the last.
@@ -38,12 +84,40 @@ const NAMES: [u64; 12] = [
     0x01_74_69_67_69_64_78, // xdigit
 ];
 
-// The ranges of the k-th name.
-fn range_row(k: usize) -> u64
-    requires { ⌜ k < 12 ⌝ }
-    ensures { λ r. ⌜ r ≡ getD rangeRows k 0 ⌝ }
+// The i-th of the rows, and 0 where there is none. Each place is a written number, so that a constant table is read
+// where it lies: at any other place the compiler builds it anew at each use.
+fn row_at(rows: [u64; 26], i: usize) -> u64
+    ensures { λ r. ⌜ r ≡ getD rows i 0 ⌝ }
 {
-    RANGES[k]
+    match i {
+        0 => rows[0],
+        1 => rows[1],
+        2 => rows[2],
+        3 => rows[3],
+        4 => rows[4],
+        5 => rows[5],
+        6 => rows[6],
+        7 => rows[7],
+        8 => rows[8],
+        9 => rows[9],
+        10 => rows[10],
+        11 => rows[11],
+        12 => rows[12],
+        13 => rows[13],
+        14 => rows[14],
+        15 => rows[15],
+        16 => rows[16],
+        17 => rows[17],
+        18 => rows[18],
+        19 => rows[19],
+        20 => rows[20],
+        21 => rows[21],
+        22 => rows[22],
+        23 => rows[23],
+        24 => rows[24],
+        25 => rows[25],
+        _ => 0,
+    }
 }
 
 // The letters of the k-th name.
@@ -54,28 +128,21 @@ fn name_word(k: usize) -> u64
     NAMES[k]
 }
 
-// Whether the k-th name lists the byte x.
+// Whether the k-th name lists the byte x: bit n of the table. The row is read before the byte is tested, so that
+// the code has no jump by the byte, which would be hard to foresee.
 pub fn name_has(k: usize, x: u8) -> bool
     ensures { λ r. ⌜ r ≡ named k x ⌝ }
 {
     if 12 <= k {
         return false;
     }
-    let y = x as u64;
-    let mut left = range_row(k);
-    let mut j: usize = 0;
-    while j < 4 {
-        let first = left / 256 % 256;
-        let last = left % 256;
-        if first <= y {
-            if y <= last {
-                return true;
-            }
-        }
-        left = left / 65536;
-        j += 1;
+    let n = 128 * k + x as usize;
+    let row = row_at(BITS, n / 64);
+    if x < 128 {
+        (row >> (n % 64)) % 2 == 1
+    } else {
+        false
     }
-    false
 }
 
 // A byte as a number.

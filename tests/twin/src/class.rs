@@ -89,8 +89,12 @@ fn read_name(pattern: &[u8], at: usize) -> Option<(Member, usize)> {
     }
 }
 
+/// "the twelve names", in document 01's order.
+pub const TWELVE: [&str; 12] =
+    ["alnum", "alpha", "blank", "cntrl", "digit", "graph", "lower", "print", "punct", "space", "upper", "xdigit"];
+
 /// "the twelve names [...] over ASCII as in the POSIX locale"
-fn twelve(name: &[u8]) -> Option<fn(u8) -> bool> {
+pub fn twelve(name: &[u8]) -> Option<fn(u8) -> bool> {
     Some(match name {
         b"alnum" => |b| b.is_ascii_alphanumeric(),
         b"alpha" => |b| b.is_ascii_alphabetic(),

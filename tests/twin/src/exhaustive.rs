@@ -1,5 +1,6 @@
 //! Every small pattern against every small text, in the four modes.
 use crate::check::Check;
+use crate::class::TWELVE;
 use crate::fence::Fence;
 use crate::matcher::Matcher;
 use crate::words::words;
@@ -75,9 +76,7 @@ fn every_byte() -> Vec<Fence> {
 /// Each name, and names that are nearly one, against every byte.
 fn names<M: Matcher>(check: &mut Check<M>) {
     let texts = every_byte();
-    let twelve =
-        ["alnum", "alpha", "blank", "cntrl", "digit", "graph", "lower", "print", "punct", "space", "upper", "xdigit"];
-    for name in twelve {
+    for name in TWELVE {
         let (cut, longer) = (&name[1..], format!("{name}s"));
         for name in [name, cut, &longer, &name.to_uppercase()] {
             check.pattern(format!("[[:{name}:]]").as_bytes(), &texts);

@@ -43,6 +43,8 @@ pub mod sets;
 #[cfg(feature = "fidshore")]
 pub mod archive;
 #[cfg(feature = "prober")]
+pub mod names;
+#[cfg(feature = "prober")]
 pub mod probed;
 
 // What asks the C calls: how a pattern's reading and the questions grow.

@@ -1,59 +1,34 @@
--- `classes::names::name_has` meets its contract: each turn passes one of the four ranges.
-use mathlib.Core.Logic.{⊎-elim}
-use Prim.Native.Nat.{_≤_, _<_, _-_}
+-- `classes::names::name_has` meets its contract: the byte's bit in the row that was read. The code's constant is the table of the law,
+-- computed from the definition and compared here.
 use native.Mathlib.Omega.{arith}
 use borrow.Author.Needs.{needs}
-use Rattle.classes.proofs.NameLaws.{Passed, passed-none, named-in, passed-below, passed-above, passed-all, named-none}
+use Rattle.classes.specs.Names.{spans}
+use Rattle.classes.proofs.NameLaws.{named-bit, named-above, named-none}
 use Rattle.classes.proofs.names.name_has.Statement.{statement}
 use Rattle.classes.proofs.names.name_has.Tie as tie
 
-abbrev Inv-loop : tie.InvT-loop
-Inv-loop k x y left₀ j₀ left j = (j ≤ 4) × Passed k x j left
-
-abbrev μ-loop : tie.MeasureT-loop
-μ-loop k x y left₀ j₀ left j = 4 - j
-
-returns : tie.Need-returns Inv-loop μ-loop
+returns : tie.Need-returns
 returns c = named-none _ _ (c .if1 .taken)
 
-range-row-requires : tie.Need-range-row-requires Inv-loop μ-loop
-range-row-requires c κs = search needs
+mul-n : tie.Need-mul-n
+mul-n c = search needs
 
-loop-holds : tie.Need-loop-holds Inv-loop μ-loop
-loop-holds c = (search needs, passed-none _ _ _ (c .range-row .ensures))
+add-n : tie.Need-add-n
+add-n c = search needs
 
-returns-2 : tie.Need-returns-2 Inv-loop μ-loop
-returns-2 c =
-    named-in _ _ (c .before .before .before .loop .j) _ (omega arith) (omega arith) (c .before .before .before .loop .inv .1) (c .before .if2 .taken) (c .if3 .taken)
+row-at-requires : tie.Need-row-at-requires
+row-at-requires c κs = search needs
 
-add-j : tie.Need-add-j Inv-loop μ-loop
-add-j c = search needs
+shr-result : tie.Need-shr-result
+shr-result c = search needs
 
-loop-less : tie.Need-loop-less Inv-loop μ-loop
-loop-less c = search needs
+returns-2 : tie.Need-returns-2
+unfolding spans
+returns-2 c = named-bit _ _ _ (omega arith) (c .if2 .taken) (c .before .row-at .ensures)
 
-loop-again : tie.Need-loop-again Inv-loop μ-loop
-loop-again c =
-    let l : c .before .before .loop .j < 4 = omega arith in
-    let s = c .before .before .loop .inv .1 in (
-      search needs,
-      ⊎-elim (λ w. passed-above _ _ _ _ (omega arith) l s (w .0 .taken) (w .1 .left)) (λ w. passed-below _ _ _ _ (omega arith) l s (w .left)) (c .if2 .came),
-    )
-
-returns-3 : tie.Need-returns-3 Inv-loop μ-loop
-returns-3 c = passed-all _ _ (c .before .loop .j) _ (omega arith) (omega arith) (c .before .loop .inv .1)
+returns-3 : tie.Need-returns-3
+returns-3 c = named-above _ _ (omega arith) (c .if2 .left) (omega arith)
 
 pub name-has-spec : {M : Type 1} → statement M
 name-has-spec =
-    tie.close
-    (tie.spec
-    Inv-loop
-    μ-loop
-    returns
-    range-row-requires
-    loop-holds
-    returns-2
-    add-j
-    loop-less
-    loop-again
-    returns-3)
+    tie.close (tie.spec returns mul-n add-n row-at-requires shr-result returns-2 returns-3)

@@ -1,0 +1,178 @@
+/* Whether a class name lists a byte, asked of two builds in one program; built
+ * by bench/names, which gives each build's calls a name of their own.
+ *
+ *   names compare        the answers of the two: every name and byte, and
+ *                        numbers of no name; status 1 if any differ
+ *   names once CALL      every name and byte once, for counting instructions
+ *   names time ROUNDS    nanoseconds a call by turns: a line a call and order,
+ *                        with the median of the rounds
+ *
+ * Times are processor time of this process: the machine may be shared. */
+#define _GNU_SOURCE
+#include <stddef.h>
+#include <stdint.h>
+#include <stdio.h>
+#include <stdlib.h>
+#include <string.h>
+#include <time.h>
+
+#define NAMES 12
+#define BYTES 256
+#define TURNS 32 /* so often each pair stands in an order: too long a row to be learnt by heart */
+#define PAIRS (NAMES * BYTES * TURNS)
+#define MOST_ROUNDS 1000
+
+typedef uint32_t match(const uint8_t *pattern, size_t pattern_len, const uint8_t *text, size_t text_len, uint64_t flags);
+typedef uint32_t named(size_t name, uint8_t byte);
+
+extern named old_named, new_named;
+extern match old_match, new_match;
+
+static const char *const patterns[NAMES] = { "[[:alnum:]]", "[[:alpha:]]", "[[:blank:]]", "[[:cntrl:]]", "[[:digit:]]", "[[:graph:]]",
+                                             "[[:lower:]]", "[[:print:]]", "[[:punct:]]", "[[:space:]]", "[[:upper:]]", "[[:xdigit:]]" };
+
+/* What the loop and a call cost by themselves. */
+__attribute__((noinline)) static uint32_t empty(size_t name, uint8_t byte)
+{
+    __asm__ volatile("" : : "r"(name), "r"(byte));
+    return 0;
+}
+
+static uint32_t by_match(match *call, size_t name, uint8_t byte)
+{
+    const char *pattern = patterns[name];
+    return call((const uint8_t *)pattern, strlen(pattern), &byte, 1, 0);
+}
+
+static uint32_t old_by_match(size_t name, uint8_t byte)
+{
+    return by_match(old_match, name, byte);
+}
+
+static uint32_t new_by_match(size_t name, uint8_t byte)
+{
+    return by_match(new_match, name, byte);
+}
+
+static const struct {
+    const char *name;
+    named *call;
+} calls[] = { { "empty", empty }, { "old_named", old_named }, { "new_named", new_named }, { "old_match", old_by_match }, { "new_match", new_by_match } };
+#define CALLS (sizeof calls / sizeof *calls)
+
+struct pair {
+    size_t name;
+    uint8_t byte;
+};
+
+static struct pair in_order[PAIRS], mixed[PAIRS];
+
+static void draw_orders(void)
+{
+    uint64_t state = 20260314;
+    for (size_t i = 0; i < PAIRS; i++)
+        mixed[i] = in_order[i] = (struct pair){ i / BYTES % NAMES, (uint8_t)(i % BYTES) };
+    for (size_t i = PAIRS - 1; i > 0; i--) {
+        state = state * 6364136223846793005u + 1442695040888963407u;
+        size_t j = (size_t)(state >> 33) % (i + 1);
+        struct pair other = mixed[i];
+        mixed[i] = mixed[j];
+        mixed[j] = other;
+    }
+}
+
+static int differs(const char *call, size_t name, uint8_t byte, uint32_t before, uint32_t after)
+{
+    if (before != after)
+        printf("%s: name %zu, byte %d: %u before, %u after\n", call, name, byte, before, after);
+    return before != after;
+}
+
+/* Numbers from 12 on are no names, also if a narrower number would be one. */
+static size_t other_name(size_t k)
+{
+    static const size_t far[] = { 0, UINT64_C(1) << 8, UINT64_C(1) << 16, UINT64_C(1) << 32, UINT64_C(1) << 63 };
+    return k < 5 * NAMES ? far[k / NAMES] + k % NAMES : k < 1000 ? k : SIZE_MAX;
+}
+
+static int compare(void)
+{
+    size_t asked = 0, wrong = 0, listed = 0;
+    for (size_t k = 0; k <= 1000; k++)
+        for (int byte = 0; byte < BYTES; byte++, asked++) {
+            size_t name = other_name(k);
+            uint32_t after = new_named(name, (uint8_t)byte);
+            wrong += (size_t)differs("named", name, (uint8_t)byte, old_named(name, (uint8_t)byte), after);
+            wrong += name >= NAMES && after != 0;
+            listed += after;
+            if (name < NAMES)
+                wrong += (size_t)differs("match", name, (uint8_t)byte, old_by_match(name, (uint8_t)byte), new_by_match(name, (uint8_t)byte));
+        }
+    printf("names: %zu asked of both, %zu listed, %zu wrong\n", asked, listed, wrong);
+    return wrong > 0;
+}
+
+static double now(void)
+{
+    struct timespec t;
+    clock_gettime(CLOCK_PROCESS_CPUTIME_ID, &t);
+    return (double)t.tv_sec * 1e9 + (double)t.tv_nsec;
+}
+
+static double pass(named *call, const struct pair *pairs)
+{
+    uint32_t sum = 0;
+    double begun = now();
+    for (size_t i = 0; i < PAIRS; i++)
+        sum += call(pairs[i].name, pairs[i].byte);
+    __asm__ volatile("" : : "r"(sum));
+    return (now() - begun) / PAIRS;
+}
+
+static int ascending(const void *a, const void *b)
+{
+    double x = *(const double *)a, y = *(const double *)b;
+    return (x > y) - (x < y);
+}
+
+static int measure(size_t rounds)
+{
+    static double times[CALLS][2][MOST_ROUNDS];
+    if (rounds < 1 || rounds > MOST_ROUNDS)
+        return 2;
+    draw_orders();
+    for (size_t round = 0; round < rounds; round++)
+        for (size_t i = 0; i < CALLS; i++) {
+            times[i][0][round] = pass(calls[i].call, in_order);
+            times[i][1][round] = pass(calls[i].call, mixed);
+        }
+    for (size_t i = 0; i < CALLS; i++)
+        for (int order = 0; order < 2; order++) {
+            qsort(times[i][order], rounds, sizeof(double), ascending);
+            printf("%s %s %.4f\n", calls[i].name, order ? "mixed" : "order", times[i][order][rounds / 2]);
+        }
+    return 0;
+}
+
+static int once(const char *name)
+{
+    for (size_t i = 0; i < CALLS; i++)
+        if (!strcmp(calls[i].name, name)) {
+            for (size_t k = 0; k < NAMES; k++)
+                for (int byte = 0; byte < BYTES; byte++)
+                    calls[i].call(k, (uint8_t)byte);
+            return 0;
+        }
+    return 2;
+}
+
+int main(int count, char **words)
+{
+    if (count == 2 && !strcmp(words[1], "compare"))
+        return compare();
+    if (count == 3 && !strcmp(words[1], "once"))
+        return once(words[2]);
+    if (count == 3 && !strcmp(words[1], "time"))
+        return measure((size_t)atoi(words[2]));
+    return 2;
+}
