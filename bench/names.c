@@ -4,8 +4,8 @@
  *   names compare        the answers of the two: every name and byte, and
  *                        numbers of no name; status 1 if any differ
  *   names once CALL      every name and byte once, for counting instructions
- *   names time ROUNDS    nanoseconds a call by turns: a line a call and order,
- *                        with the median of the rounds
+ *   names time ROUNDS    nanoseconds a call by turns, the least of the rounds: a
+ *                        line a call and order
  *
  * Times are processor time of this process: the machine may be shared. */
 #define _GNU_SOURCE
@@ -20,7 +20,6 @@
 #define BYTES 256
 #define TURNS 32 /* so often each pair stands in an order: too long a row to be learnt by heart */
 #define PAIRS (NAMES * BYTES * TURNS)
-#define MOST_ROUNDS 1000
 
 typedef uint32_t match(const uint8_t *pattern, size_t pattern_len, const uint8_t *text, size_t text_len, uint64_t flags);
 typedef uint32_t named(size_t name, uint8_t byte);
@@ -129,28 +128,20 @@ static double pass(named *call, const struct pair *pairs)
     return (now() - begun) / PAIRS;
 }
 
-static int ascending(const void *a, const void *b)
-{
-    double x = *(const double *)a, y = *(const double *)b;
-    return (x > y) - (x < y);
-}
-
 static int measure(size_t rounds)
 {
-    static double times[CALLS][2][MOST_ROUNDS];
-    if (rounds < 1 || rounds > MOST_ROUNDS)
-        return 2;
+    static double least[CALLS][2];
     draw_orders();
     for (size_t round = 0; round < rounds; round++)
-        for (size_t i = 0; i < CALLS; i++) {
-            times[i][0][round] = pass(calls[i].call, in_order);
-            times[i][1][round] = pass(calls[i].call, mixed);
-        }
+        for (size_t i = 0; i < CALLS; i++)
+            for (int order = 0; order < 2; order++) {
+                double ns = pass(calls[i].call, order ? mixed : in_order);
+                if (round == 0 || ns < least[i][order])
+                    least[i][order] = ns;
+            }
     for (size_t i = 0; i < CALLS; i++)
-        for (int order = 0; order < 2; order++) {
-            qsort(times[i][order], rounds, sizeof(double), ascending);
-            printf("%s %s %.4f\n", calls[i].name, order ? "mixed" : "order", times[i][order][rounds / 2]);
-        }
+        for (int order = 0; order < 2; order++)
+            printf("%s %s %.4f\n", calls[i].name, order ? "mixed" : "order", least[i][order]);
     return 0;
 }
 
