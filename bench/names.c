@@ -2,7 +2,7 @@
  * by bench/names, which gives each build's calls a name of their own.
  *
  *   names compare        the answers of the two: every name and byte, and
- *                        numbers of no name; status 1 if any differ
+ *                        numbers that are no names; status 1 if any is wrong
  *   names once CALL      every name and byte once, for counting instructions
  *   names time ROUNDS    nanoseconds a call by turns, the least of the rounds: a
  *                        line a call and order
@@ -18,17 +18,20 @@
 
 #define NAMES 12
 #define BYTES 256
-#define TURNS 32 /* so often each pair stands in an order: too long a row to be learnt by heart */
+#define TURNS 32 /* so often each pair stands in an order, which is then too long to be foretold */
 #define PAIRS (NAMES * BYTES * TURNS)
 
-typedef uint32_t match(const uint8_t *pattern, size_t pattern_len, const uint8_t *text, size_t text_len, uint64_t flags);
+typedef uint32_t match(const uint8_t *pattern, size_t pattern_len,
+                       const uint8_t *text, size_t text_len, uint64_t flags);
 typedef uint32_t named(size_t name, uint8_t byte);
 
 extern named old_named, new_named;
 extern match old_match, new_match;
 
-static const char *const patterns[NAMES] = { "[[:alnum:]]", "[[:alpha:]]", "[[:blank:]]", "[[:cntrl:]]", "[[:digit:]]", "[[:graph:]]",
-                                             "[[:lower:]]", "[[:print:]]", "[[:punct:]]", "[[:space:]]", "[[:upper:]]", "[[:xdigit:]]" };
+static const char *const patterns[NAMES] = {
+    "[[:alnum:]]", "[[:alpha:]]", "[[:blank:]]", "[[:cntrl:]]", "[[:digit:]]", "[[:graph:]]",
+    "[[:lower:]]", "[[:print:]]", "[[:punct:]]", "[[:space:]]", "[[:upper:]]", "[[:xdigit:]]",
+};
 
 /* What the loop and a call cost by themselves. */
 __attribute__((noinline)) static uint32_t empty(size_t name, uint8_t byte)
@@ -56,7 +59,13 @@ static uint32_t new_by_match(size_t name, uint8_t byte)
 static const struct {
     const char *name;
     named *call;
-} calls[] = { { "empty", empty }, { "old_named", old_named }, { "new_named", new_named }, { "old_match", old_by_match }, { "new_match", new_by_match } };
+} calls[] = {
+    { "empty", empty },
+    { "old_named", old_named },
+    { "new_named", new_named },
+    { "old_match", old_by_match },
+    { "new_match", new_by_match },
+};
 #define CALLS (sizeof calls / sizeof *calls)
 
 struct pair {
@@ -87,28 +96,39 @@ static int differs(const char *call, size_t name, uint8_t byte, uint32_t before,
     return before != after;
 }
 
-/* Numbers from 12 on are no names, also if a narrower number would be one. */
-static size_t other_name(size_t k)
+/* 0 to 999, of which the first twelve are names; numbers that would be names if they were cut to 8, 16, 32 or 63
+ * bits; the greatest. */
+#define NUMBERS (1000 + 4 * NAMES + 1)
+
+static size_t number(size_t i)
 {
-    static const size_t far[] = { 0, UINT64_C(1) << 8, UINT64_C(1) << 16, UINT64_C(1) << 32, UINT64_C(1) << 63 };
-    return k < 5 * NAMES ? far[k / NAMES] + k % NAMES : k < 1000 ? k : SIZE_MAX;
+    static const int bits[] = { 8, 16, 32, 63 };
+    if (i < 1000)
+        return i;
+    i -= 1000;
+    return i < 4 * NAMES ? ((size_t)1 << bits[i / NAMES]) + i % NAMES : SIZE_MAX;
+}
+
+/* How many of the answers about one name and byte are wrong. */
+static int wrong(size_t name, uint8_t byte, uint32_t after)
+{
+    if (name >= NAMES)
+        return differs("no name", name, byte, 0, after) + differs("named", name, byte, old_named(name, byte), after);
+    return differs("named", name, byte, old_named(name, byte), after)
+         + differs("match", name, byte, old_by_match(name, byte), new_by_match(name, byte));
 }
 
 static int compare(void)
 {
-    size_t asked = 0, wrong = 0, listed = 0;
-    for (size_t k = 0; k <= 1000; k++)
+    long asked = 0, listed = 0, found = 0;
+    for (size_t i = 0; i < NUMBERS; i++)
         for (int byte = 0; byte < BYTES; byte++, asked++) {
-            size_t name = other_name(k);
-            uint32_t after = new_named(name, (uint8_t)byte);
-            wrong += (size_t)differs("named", name, (uint8_t)byte, old_named(name, (uint8_t)byte), after);
-            wrong += name >= NAMES && after != 0;
+            uint32_t after = new_named(number(i), (uint8_t)byte);
             listed += after;
-            if (name < NAMES)
-                wrong += (size_t)differs("match", name, (uint8_t)byte, old_by_match(name, (uint8_t)byte), new_by_match(name, (uint8_t)byte));
+            found += wrong(number(i), (uint8_t)byte, after);
         }
-    printf("names: %zu asked of both, %zu listed, %zu wrong\n", asked, listed, wrong);
-    return wrong > 0;
+    printf("names: %ld asked of both, %ld listed, %ld wrong\n", asked, listed, found);
+    return found > 0;
 }
 
 static double now(void)

@@ -18,7 +18,7 @@ bitsOf (s ∷ ss) = 2 ^ suc (s .1) - 2 ^ (s .0) + bitsOf ss
 -- the bytes of each name in two rows, those below 64 first; and two rows of none
 abbrev rowsOf : List (List Span) → List ℕ
 rowsOf [] = 0 ∷ 0 ∷ []
-rowsOf (ss ∷ names) = bitsOf ss % 2 ^ 64 ∷ bitsOf ss / 2 ^ 64 ∷ rowsOf names
+rowsOf (ss ∷ rest) = bitsOf ss % 2 ^ 64 ∷ bitsOf ss / 2 ^ 64 ∷ rowsOf rest
 
 -- the table
 abbrev pub rows : List ℕ

@@ -27,15 +27,15 @@ all-at (suc n) f e k h =
 pub all-at-rows : (n m : ℕ) (f : ℕ → ℕ → Bool) → allBelow n (λ k. allBelow m (f k)) ≡ true → (k j : ℕ) → k < n → j < m → f k j ≡ true
 all-at-rows n m f e k j hk hj = all-at m (f k) (all-at n (λ i. allBelow m (f i)) e k hk) j hj
 
--- k is none of the numbers below n, each said by an arm
+-- i is none of the numbers below n, each said by an arm
 abbrev NoneBelow : ℕ → ℕ → Type 0
-NoneBelow zero k = Unit {0}
-NoneBelow (suc n) k = NoneBelow n k × (k ≡ n → ⊥)
+NoneBelow zero i = Unit {0}
+NoneBelow (suc n) i = NoneBelow n i × (i ≡ n → ⊥)
 
-none-below : (n k : ℕ) → NoneBelow n k → n ≤ k
-none-below zero k h = omega arith
-none-below (suc n) k h = let l = none-below n k (h .0) in let e = h .1 in omega arith
+none-below : (n i : ℕ) → NoneBelow n i → n ≤ i
+none-below zero i h = omega arith
+none-below (suc n) i h = let l = none-below n i (h .0) in let e = h .1 in omega arith
 
--- then a table of n rows has none for it
-pub no-row : (rows : List ℕ) (n k : ℕ) → length rows ≡ n → NoneBelow n k → 0 ≡ getD rows k 0
-no-row rows n k e h = let l = none-below n k h in sym (List·getD-eq-default rows 0 (omega arith))
+-- then a table of n rows has none at i
+pub no-row : (rows : List ℕ) (n i : ℕ) → length rows ≡ n → NoneBelow n i → 0 ≡ getD rows i 0
+no-row rows n i e h = let l = none-below n i h in sym (List·getD-eq-default rows 0 (omega arith))

@@ -1,4 +1,4 @@
-// The twelve class names and the bytes that each lists, in constant tables with a row for each name.
+// The twelve class names and the bytes that each lists, in two constant tables of one order.
 ghost use mathlib.Core.Path.{_≡_};
 ghost use Prim.Native.Nat.{_<_};
 ghost use lib.ListN.{length, getD};
@@ -6,7 +6,7 @@ ghost use Rattle.classes.specs.Names.{named, whichName};
 ghost use Rattle.classes.specs.Tables.{wordOf, nameWords};
 
 // Ranges of bytes, a bit for each byte: from `first` to `last` it is `ALL << first & ALL >> (63 - last)`.
-// Bytes from 64 on are counted from there.
+// From 64 on bytes are counted from there: `ALL << (first - 64) & ALL >> (127 - last)`.
 const ALL: u64 = 0xffff_ffff_ffff_ffff;
 
 const TAB_TO_CR: u64 = ALL << b'\t' & ALL >> (63 - b'\r');
@@ -36,7 +36,7 @@ const BITS: [u64; 26] = [
     // blank
     1 << b'\t' | 1 << b' ',
     0,
-    // cntrl
+    // cntrl: below 32, and DELETE
     ALL >> (63 - 31),
     1 << (127 - 64),
     // digit
@@ -63,7 +63,7 @@ const BITS: [u64; 26] = [
     // xdigit
     DIGITS,
     UPPER_TO_F | LOWER_TO_F,
-    // none: here a byte from 128 on would stand for the last name
+    // read and not used, for a byte from 128 on of the last name: so no place is past the table
     0,
     0,
 ];

@@ -1,4 +1,5 @@
-// The matcher and both questions for the outside tests: the complete answer's number as the result, its values in a lent list; and a class name's bytes.
+// The matcher and both questions for the outside tests: the complete answer's number as the result, its values in a lent list.
+// And whether a class name lists a byte.
 ghost use mathlib.Core.Path.{_≡_};
 ghost use mathlib.Core.List.{[], _∷_, _++_};
 ghost use Rattle.questions.specs.Complete.{placeValues, stateValues, completeIgnore, completeAttribute};

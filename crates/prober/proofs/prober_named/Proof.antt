@@ -1,5 +1,7 @@
 -- `prober::prober_named` meets its contract: 1 where the name lists the byte, else 0.
-use mathlib.Core.Path.{refl, sym, _∙_}
+use mathlib.Core.Path.{sym, ap, _∙_}
+use mathlib.Core.Bool.{Bool, cond}
+use Prim.Native.Nat.{ℕ}
 use borrow.Author.Needs.{needs}
 use Rattle.prober.specs.Probes.{namedProbed}
 use Rattle.prober.proofs.prober_named.Statement.{statement}
@@ -10,11 +12,11 @@ name-has-requires c κs = search needs
 
 returns : tie.Need-returns
 unfolding namedProbed
-returns c = rw (sym (c .before .name-has .ensures) ∙ c .if1 .taken) refl
+returns c = sym (ap (λ (b : Bool). cond {A = ℕ} b 1 0) (sym (c .before .name-has .ensures) ∙ c .if1 .taken))
 
 returns-2 : tie.Need-returns-2
 unfolding namedProbed
-returns-2 c = rw (sym (c .before .name-has .ensures) ∙ c .if1 .left) refl
+returns-2 c = sym (ap (λ (b : Bool). cond {A = ℕ} b 1 0) (sym (c .before .name-has .ensures) ∙ c .if1 .left))
 
 pub prober-named-spec : {M : Type 1} → statement M
 prober-named-spec = tie.close (tie.spec name-has-requires returns returns-2)

@@ -10,7 +10,7 @@ use twin::{crash, names, sets};
 fn main() {
     let words = Words::read("places [random cases] [seed] [quick|full]");
     crash::report();
+    let names = names::run();
     let counts = sets::run::<Probed>(&words);
-    let counts = counts.iter().map(|c| (c.cases, c.differences)).chain([names::run()]);
-    program::end("places", "cases", counts);
+    program::end("places", "cases", counts.iter().map(|c| (c.cases, c.differences)).chain([names]));
 }
