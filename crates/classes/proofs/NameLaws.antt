@@ -20,7 +20,7 @@ abbrev rowsOf : List (List Span) → List ℕ
 rowsOf [] = 0 ∷ 0 ∷ []
 rowsOf (ss ∷ rest) = bitsOf ss % 2 ^ 64 ∷ bitsOf ss / 2 ^ 64 ∷ rowsOf rest
 
--- the table
+-- the table, as the definition gives it
 abbrev pub rows : List ℕ
 rows = rowsOf spans
 
