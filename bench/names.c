@@ -6,15 +6,14 @@
  *   names once CALL      every name and byte once, for counting instructions
  *   names time ROUNDS    nanoseconds a call by turns, the least of the rounds: a
  *                        line a call and order
- *
- * Times are processor time of this process: the machine may be shared. */
+ */
 #define _GNU_SOURCE
+#include "clock.h"
 #include <stddef.h>
 #include <stdint.h>
 #include <stdio.h>
 #include <stdlib.h>
 #include <string.h>
-#include <time.h>
 
 #define NAMES 12
 #define BYTES 256
@@ -129,13 +128,6 @@ static int compare(void)
         }
     printf("names: %ld asked of both, %ld listed, %ld wrong\n", asked, listed, found);
     return found > 0;
-}
-
-static double now(void)
-{
-    struct timespec t;
-    clock_gettime(CLOCK_PROCESS_CPUTIME_ID, &t);
-    return (double)t.tv_sec * 1e9 + (double)t.tv_nsec;
 }
 
 static double pass(named *call, const struct pair *pairs)

@@ -4,19 +4,17 @@
  *                         worker ends by SIGPROF if they take longer
  *   time FILE MS          nanoseconds a question, asked for at least so long
  *
- * All times are processor time of this process: the machine may be shared.
- *
  * A file's first line names the call: match, ignore or attribute. Each further
  * line is a question: the two byte strings in hex, then the flags. `-` is
  * the empty string, `=` the one that stands there in the line before: a rule
  * file is given once. */
 #define _GNU_SOURCE
+#include "clock.h"
 #include "worker.h"
 #include <stdio.h>
 #include <stdlib.h>
 #include <string.h>
 #include <sys/time.h>
-#include <time.h>
 
 struct question {
     struct bytes first, second;
@@ -94,13 +92,6 @@ static int answer(const struct work *work, size_t i)
 {
     const struct question *q = &work->questions[i];
     return work->ask(q->first, q->second, q->flags);
-}
-
-static double now(void)
-{
-    struct timespec t;
-    clock_gettime(CLOCK_PROCESS_CPUTIME_ID, &t);
-    return (double)t.tv_sec * 1e9 + (double)t.tv_nsec;
 }
 
 /* Whole passes only, so that every worker is asked the same questions equally
