@@ -8,7 +8,7 @@ import pathlib
 import random
 import urllib.parse
 
-ROWS = pathlib.Path(__file__).resolve().parent.parent / "crates/tables/data/document-001.tsv"
+ROWS = pathlib.Path(__file__).resolve().parent.parent / "crates/testtables/data/document-001.tsv"
 SEED = 20260314
 RULES_LIMIT = 65536
 SLOW_ROW = "148"    # takes most of git 2.39.5's time

@@ -1,4 +1,4 @@
-/* A data file of crates/tables/data, for C. The first lines of these files say
+/* A data file of crates/testtables/data, for C. The first lines of these files say
  * how they are written. */
 #ifndef SHEET_H
 #define SHEET_H

@@ -6,7 +6,7 @@
  *
  * usage: smoke MATCHES IGNORES ATTRIBUTES
  *
- * These are document-01.tsv, ignore.tsv and attributes.tsv of crates/tables/data;
+ * These are document-01.tsv, ignore.tsv and attributes.tsv of crates/testtables/data;
  * their first lines say how they are written.
  *
  * Refusal 2 cannot be reached from C: it is about how several rule files are

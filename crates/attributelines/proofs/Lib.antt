@@ -1,4 +1,4 @@
 -- Laws that the proofs of several functions use.
-pub mod WordLaws
+pub mod TokenLaws
 pub mod MentionLaws
 pub mod LineLaws

@@ -1,4 +1,4 @@
--- What a reader must believe:
+-- What a reader must believe, in the paper's order:
 pub mod AttributeLines
--- Inner definitions, which only the contracts of private functions cite:
-pub mod Scan
+-- Inner definitions, none of which a public contract cites:
+pub mod inner

@@ -1,17 +1,19 @@
-// What one attribute line says of one attribute of one entry.
+// The effect of one attribute line on one attribute of one entry: none, or the state that its last mention gives. For a user: docs/RULES.md,
+// "Attribute lines".
 ghost use mathlib.Core.Path.{_≡_};
 ghost use lib.ListN.{drop};
-ghost use Rattle.attributelines.specs.AttributeLines.{pieces, definition, patternDropped, bytesState, stateOf};
-ghost use Rattle.attributelines.specs.Scan.{mentionsState};
+ghost use Rattle.entries.specs.Entries.{against};
+ghost use Rattle.attributelines.specs.AttributeLines.{tokens, definition, patternDropped, lineState, stateOf};
+ghost use Rattle.attributelines.specs.inner.Scan.{mentionsState};
 
 mod mention;
-mod words;
+mod tokens;
 
 use crate::mention::mention_name;
 use crate::mention::mention_state;
-use crate::mention::same;
-use crate::words::blanks_end;
-use crate::words::word_end;
+use crate::tokens::blanks_end;
+use crate::tokens::token_end;
+use bytestrings::same_bytes;
 use entries::pattern_matches;
 use refusals::name::name_good;
 
@@ -21,7 +23,7 @@ pub struct Span {
     pub length: usize,
 }
 
-// An attribute's state where a line speaks.
+// An attribute's state where a line decides it.
 pub enum State {
     Set,
     Unset,
@@ -29,10 +31,10 @@ pub enum State {
     Unspecified,
 }
 
-// What a line says of an attribute.
-pub enum Word {
-    Silent,
-    Says(State),
+// The effect of a line on an attribute.
+pub enum Effect {
+    None,
+    Assigns(State),
 }
 
 // Whether the pattern begins with `[attr]` and at least one more byte.
@@ -42,10 +44,10 @@ fn is_definition(pattern: &[u8]) -> bool
     if pattern.len() <= 6 {
         return false;
     }
-    if pattern[0] != 91 {
+    if pattern[0] != b'[' {
         return false;
     }
-    same(&pattern[1..6], b"attr]")
+    same_bytes(&pattern[1..6], b"attr]")
 }
 
 // Whether a line with this pattern is a comment or is dropped.
@@ -55,46 +57,46 @@ fn pattern_dropped(pattern: &[u8]) -> bool
     if pattern.len() == 0 {
         return false;
     }
-    if pattern[0] == 35 {
+    if pattern[0] == b'#' {
         return true;
     }
-    if pattern[0] == 33 {
+    if pattern[0] == b'!' {
         return true;
     }
-    if pattern[0] == 34 {
+    if pattern[0] == b'"' {
         return true;
     }
     is_definition(pattern)
 }
 
-// What the mentions from a place of the text on say of the attribute; a bad name among them drops the line.
-fn mentions_word(text: &[u8], from: usize, attribute: &[u8]) -> Word
-    ensures { λ r. ⌜ stateOf r ≡ mentionsState (now (attribute .entry)) (pieces from (drop from (now (text .entry)))) ⌝ }
+// The effect of the mentions from a place of the text on; a bad name among them drops the line.
+fn mentions_effect(text: &[u8], from: usize, attribute: &[u8]) -> Effect
+    ensures { λ r. ⌜ stateOf r ≡ mentionsState (now (attribute .entry)) (tokens from (drop from (now (text .entry)))) ⌝ }
 {
-    let mut said = Word::Silent;
+    let mut effect = Effect::None;
     let mut i = from;
     while i < text.len() {
         let start = blanks_end(text, i);
         if start == text.len() {
-            return said;
+            return effect;
         }
-        let end = word_end(text, start);
+        let end = token_end(text, start);
         let name = mention_name(&text[..end], start);
         if name_good(name) {
-            if same(name, attribute) {
-                said = Word::Says(mention_state(&text[..end], start));
+            if same_bytes(name, attribute) {
+                effect = Effect::Assigns(mention_state(&text[..end], start));
             }
         } else {
-            return Word::Silent;
+            return Effect::None;
         }
         i = end;
     }
-    said
+    effect
 }
 
-// What the line that starts at a place of the text, and ends with it, says of the attribute: the rest is the entry from the base on, the
+// The effect on the attribute of the line that starts at a place of the text and ends with it: the rest is the entry from the base on, the
 // component its last one.
-pub fn line_word(
+pub fn line_effect(
     text: &[u8],
     at: usize,
     attribute: &[u8],
@@ -102,19 +104,19 @@ pub fn line_word(
     component: &[u8],
     directory: bool,
     fold: bool,
-) -> Word
-    ensures { λ r. ⌜ stateOf r ≡ bytesState fold directory (now (rest .entry)) (now (component .entry)) (now (attribute .entry)) at (drop at (now (text .entry))) ⌝ }
+) -> Effect
+    ensures { λ r. ⌜ stateOf r ≡ lineState (against (now (rest .entry)) (now (component .entry)) directory fold) (now (attribute .entry)) at (drop at (now (text .entry))) ⌝ }
 {
     let start = blanks_end(text, at);
     if text.len() <= start {
-        return Word::Silent;
+        return Effect::None;
     }
-    let end = word_end(text, start);
+    let end = token_end(text, start);
     if pattern_dropped(&text[start..end]) {
-        return Word::Silent;
+        return Effect::None;
     }
     if pattern_matches(&text[start..end], rest, component, directory, fold) {
-        return mentions_word(text, end, attribute);
+        return mentions_effect(text, end, attribute);
     }
-    Word::Silent
+    Effect::None
 }

@@ -1,41 +1,17 @@
-// One mention: a word that starts at a place of the text and ends with it.
+// One mention: a token that starts at a place of the text and ends with it.
 ghost use mathlib.Core.Path.{_≡_};
 ghost use Prim.Native.Nat.{_+_};
 ghost use lib.ListN.{drop};
 ghost use Rattle.attributelines.specs.AttributeLines.{nameLength, mention};
-ghost use Rattle.classes.specs.Names.{sameBytes};
 use crate::Span;
 use crate::State;
-
-// Whether two names are the same bytes.
-pub fn same(a: &[u8], b: &[u8]) -> bool
-    ensures { λ r. ⌜ r ≡ sameBytes (now (a .entry)) (now (b .entry)) ⌝ }
-{
-    if a.len() != b.len() {
-        return false;
-    }
-    let mut i = 0;
-    while i < a.len() {
-        if a[i] != b[i] {
-            return false;
-        }
-        i += 1;
-    }
-    true
-}
+use bytestrings::find_byte;
 
 // The place of the next `=`, or the end.
 fn name_end(text: &[u8], at: usize) -> usize
     ensures { λ r. ⌜ r ≡ at + nameLength (drop at (now (text .entry))) ⌝ }
 {
-    let mut i = at;
-    while i < text.len() {
-        if text[i] == 61 {
-            return i;
-        }
-        i += 1;
-    }
-    i
+    find_byte(text, at, b'=')
 }
 
 // The attribute that the mention names, after a `-` or `!`.
@@ -46,10 +22,10 @@ pub fn mention_name(text: &[u8], at: usize) -> &[u8]
         return &text[..0];
     }
     let b = text[at];
-    if b == 45 {
+    if b == b'-' {
         return &text[at + 1..name_end(text, at + 1)];
     }
-    if b == 33 {
+    if b == b'!' {
         return &text[at + 1..name_end(text, at + 1)];
     }
     &text[at..name_end(text, at)]
@@ -63,10 +39,10 @@ pub fn mention_state(text: &[u8], at: usize) -> State
         return State::Set;
     }
     let b = text[at];
-    if b == 45 {
+    if b == b'-' {
         return State::Unset;
     }
-    if b == 33 {
+    if b == b'!' {
         return State::Unspecified;
     }
     let end = name_end(text, at);

@@ -10,11 +10,12 @@ use native.Mathlib.Omega.{arith}
 use lib.Dec.{eqb}
 use lib.ListN.{length, getD, drop, length-drop}
 use borrow.Author.Tests.{eq-eqb, ne-eqb}
-use Rattle.classes.proofs.MemberLaws.{from, from-drop}
+use Rattle.bytestrings.specs.Text.{char}
+use Rattle.bytestrings.proofs.SliceLaws.{from, from-drop}
 use Rattle.classes.proofs.SizeLaws.{Ends, Ended, ends-more, members-ended}
-use Rattle.classes.specs.Letters.{lower, upper, folded}
-use Rattle.classes.specs.Members.{Member, anyLists, accepted, Members, members, Class, classOf, notSign, readClass, tested}
-use Rattle.classes.specs.Scan.{scanned}
+use Rattle.bytestrings.specs.Letters.{lower, upper, folded}
+use Rattle.classes.specs.Members.{Member, anyLists, classAccepts, Members, members, Class, classOf, notSign, readClass, tested}
+use Rattle.classes.specs.inner.Scan.{scanned}
 use Rattle.classes.specs.declared.class.Tested.{Tested}
 use Rattle.classes.specs.declared.class.Tested.the-variants.{Bad, Read}
 
@@ -41,7 +42,7 @@ read-closed (x ∷ q) = go (notSign (x ∷ q))
     go false = plain-closed (x ∷ q) (members (x ∷ q) 0 true) (members-ended (x ∷ q) 0 true)
 
 -- a class is written with at least one byte after its `[`, with no more than there are, and ends in `]`
-pub class-size : (q : List ℕ) (c : Class) → readClass q ≡ some c → (1 ≤ c .size) × (c .size ≤ length q) × (getD q (c .size - 1) 0 ≡ 93)
+pub class-size : (q : List ℕ) (c : Class) → readClass q ≡ some c → (1 ≤ c .size) × (c .size ≤ length q) × (getD q (c .size - 1) 0 ≡ char "]")
 class-size q c e = subst (Closed q) e (read-closed q)
 
 -- The sign for "not".
@@ -50,13 +51,13 @@ pub sign-none : (q : List ℕ) → length q ≡ 0 → false ≡ notSign q
 sign-none [] h = refl
 sign-none (x ∷ q) h = absurd (omega arith)
 
-pub sign-first : (q : List ℕ) → (length q ≡ 0 → ⊥) → getD q 0 0 ≡ 33 → eqb (getD q 0 0) 33 ≡ notSign q
+pub sign-first : (q : List ℕ) → (length q ≡ 0 → ⊥) → getD q 0 0 ≡ char "!" → eqb (getD q 0 0) (char "!") ≡ notSign q
 sign-first [] h e = absurd (h refl)
-sign-first (x ∷ q) h e = rw (eq-eqb x 33 e) refl
+sign-first (x ∷ q) h e = rw (eq-eqb x (char "!") e) refl
 
-pub sign-other : (q : List ℕ) → (length q ≡ 0 → ⊥) → (getD q 0 0 ≡ 33 → ⊥) → eqb (getD q 0 0) 94 ≡ notSign q
+pub sign-other : (q : List ℕ) → (length q ≡ 0 → ⊥) → (getD q 0 0 ≡ char "!" → ⊥) → eqb (getD q 0 0) (char "^") ≡ notSign q
 sign-other [] h d = absurd (h refl)
-sign-other (x ∷ q) h d = rw (ne-eqb x 33 d) refl
+sign-other (x ∷ q) h d = rw (ne-eqb x (char "!") d) refl
 
 -- Where the members start, after the sign, and the two forms of a byte that is tested.
 
@@ -108,8 +109,8 @@ unfolding form folded
 folded-forms true ms x = refl
 folded-forms false ms x = or-self (anyLists ms x)
 
-accepted-hit : (fold neg hit : Bool) (ms : List Member) (x : ℕ) → hit ≡ folded fold (anyLists ms) x → not (Bool·beq hit neg) ≡ accepted fold neg ms x
-unfolding accepted
+accepted-hit : (fold neg hit : Bool) (ms : List Member) (x : ℕ) → hit ≡ folded fold (anyLists ms) x → not (Bool·beq hit neg) ≡ classAccepts fold neg ms x
+unfolding classAccepts
 accepted-hit fold false true ms x e = e
 accepted-hit fold false false ms x e = e
 accepted-hit fold true true ms x e = ap not e

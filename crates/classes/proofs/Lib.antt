@@ -1,8 +1,7 @@
 -- What the proofs of several functions use, and what the crates above cite.
-pub mod LetterLaws
 pub mod TableLaws
 pub mod NameLaws
-pub mod WordLaws
+pub mod PackLaws
 pub mod MemberLaws
 pub mod SizeLaws
 pub mod ScanLaws

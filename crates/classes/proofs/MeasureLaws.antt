@@ -9,42 +9,44 @@ use lib.Dec.{eqb}
 use lib.ListN.{length, getD, drop, length-drop, drop-of-length-le}
 use lib.Seq.{drop-cons, drop-drop}
 use borrow.Author.Tests.{ne-eqb, eqb-true}
-use Rattle.classes.proofs.TableLaws.{and-split}
-use Rattle.classes.proofs.MemberLaws.{from, from-drop, NotClose}
+use Rattle.bytestrings.specs.Text.{char}
+use Rattle.bytestrings.proofs.BoolLaws.{and-split}
+use Rattle.bytestrings.proofs.SliceLaws.{from, from-drop}
+use Rattle.classes.proofs.MemberLaws.{NotClose}
 use Rattle.classes.proofs.PlainLaws.{close-drop, next-name}
 use Rattle.classes.proofs.SizeLaws.{Within, next-within, Ended, members-ended}
 use Rattle.classes.proofs.ScanLaws.{longerBy, longer-zero, withMember, members-member, members-broken}
 use Rattle.classes.proofs.ClassLaws.{startOf, start-within, read-start}
 use Rattle.classes.specs.Members.{Member, Step, close, broken, member, single, untilClose, nameAt, bracketAt, nextMember}
 use Rattle.classes.specs.Members.{Members, members, Class, classOf, notSign, readClass, classSize}
-use Rattle.classes.specs.Sizes.{Sized, membersSize, startsName, NextClose}
+use Rattle.classes.specs.inner.Sizes.{Sized, membersSize, startsName, NextClose}
 
 -- What stands next, with `[:` and without.
 
 -- a `[:` begins what `nameAt` reads
 starts-name : (first : Bool) (q : List ℕ) → startsName q ≡ true → (2 ≤ length q) × (nextMember first q ≡ nameAt (drop 2 q))
 starts-name first [] e = absurd (false≢true e)
-starts-name first (x ∷ []) e = absurd (false≢true (and-split (eqb x 91) false e .1))
+starts-name first (x ∷ []) e = absurd (false≢true (and-split (eqb x (char "[")) false e .1))
 starts-name first (x ∷ y ∷ q) e =
-    let b = and-split (eqb x 91) (eqb y 58) e in (omega arith, rw (eqb-true x 91 (b .0), eqb-true y 58 (b .1)) (next-name first q))
+    let b = and-split (eqb x (char "[")) (eqb y (char ":")) e in (omega arith, rw (eqb-true x (char "[") (b .0), eqb-true y (char ":") (b .1)) (next-name first q))
 
-bracket-plain : (q : List ℕ) → eqb (getD q 0 0) 58 ≡ false → single 91 1 q ≡ bracketAt q
+bracket-plain : (q : List ℕ) → eqb (getD q 0 0) (char ":") ≡ false → single (char "[") 1 q ≡ bracketAt q
 unfolding bracketAt single
 bracket-plain [] e = refl
 bracket-plain (y ∷ q) e = rw e refl
 
 -- with no `[:` and no `\`, a single member is next, whichever byte it is
-pub plain-single : (q : List ℕ) (r : ℕ) → startsName q ≡ false → 0 < length q → (getD q 0 0 ≡ 92 → ⊥)
+pub plain-single : (q : List ℕ) (r : ℕ) → startsName q ≡ false → 0 < length q → (getD q 0 0 ≡ char "\\" → ⊥)
     → ((b : ℕ) → Sized r (single b 1 (from 1 q))) → Sized r (nextMember true q)
 unfolding nextMember
 plain-single [] r e h d s = absurd (omega arith)
-plain-single (x ∷ q) r e h d s = rw (and-false (eqb x 93), ne-eqb x 92 d) (go (eqb x 91) refl)
+plain-single (x ∷ q) r e h d s = rw (and-false (eqb x (char "]")), ne-eqb x (char "\\") d) (go (eqb x (char "[")) refl)
   where
     one : (b : ℕ) → Sized r (single b 1 q)
     one b = subst (λ (p : List ℕ). Sized r (single b 1 p)) (from-drop 1 (x ∷ q)) (s b)
 
-    go : (t : Bool) → eqb x 91 ≡ t → Sized r (cond t (bracketAt q) (single x 1 q))
-    go true z = subst (Sized r) (bracket-plain q (rw z at e)) (one 91)
+    go : (t : Bool) → eqb x (char "[") ≡ t → Sized r (cond t (bracketAt q) (single x 1 q))
+    go true z = subst (Sized r) (bracket-plain q (rw z at e)) (one (char "["))
     go false z = one x
 
 -- At the i-th byte: what a `[:` begins, and what any other byte begins that is not the closing `]`.
@@ -57,14 +59,14 @@ module _ (q : List ℕ) (i : ℕ) where
 
   plain-next : i < length q → NotClose (eqb i 0) (getD q i 0) → nextMember true (from i q) ≡ nextMember (eqb i 0) (drop i q)
   unfolding nextMember NotClose
-  plain-next h t = rw (from-drop i q, drop-cons q i 0, t, and-false (eqb (getD q i 0) 93)) refl
+  plain-next h t = rw (from-drop i q, drop-cons q i 0, t, and-false (eqb (getD q i 0) (char "]"))) refl
 
 -- The next `]` that is kept.
 
 close-within : (q : List ℕ) → untilClose q ≤ length q
 unfolding untilClose
 close-within [] = omega arith
-close-within (y ∷ q) = go (eqb y 93) (close-within q)
+close-within (y ∷ q) = go (eqb y (char "]")) (close-within q)
   where
     go : (t : Bool) → untilClose q ≤ length q → cond t 0 (suc (untilClose q)) ≤ suc (length q)
     go true h = omega arith
@@ -102,7 +104,7 @@ pub left-none : (q : List ℕ) (i : ℕ) → length q ≤ i → Left q i → mem
 unfolding Left members
 left-none q i h s = s ∙ rw (drop-of-length-le q h) refl
 
-pub left-close : (q : List ℕ) (i : ℕ) → i < length q → getD q i 0 ≡ 93 → (i ≡ 0 → ⊥) → Left q i → membersSize (members q 0 true) ≡ i + 1
+pub left-close : (q : List ℕ) (i : ℕ) → i < length q → getD q i 0 ≡ char "]" → (i ≡ 0 → ⊥) → Left q i → membersSize (members q 0 true) ≡ i + 1
 unfolding Left members nextMember
 left-close q i h e z s = s ∙ rw (drop-cons q i 0, e, ne-eqb i 0 z) refl
 

@@ -8,15 +8,15 @@ use lib.Dec.{eqb, ltb}
 use lib.ListN.{getD, List·getD-eq-default}
 use borrow.Author.Tests.{lt-ltb, le-ltb}
 use Rattle.classes.proofs.TableLaws.{all-at-rows}
-use Rattle.classes.specs.Names.{Span, spans, inSpans, named}
+use Rattle.classes.specs.Names.{table, spans, inSpans, named}
 
 -- the bytes of some ranges as one number, a bit for each byte
-abbrev bitsOf : List Span → ℕ
+abbrev bitsOf : List (ℕ × ℕ) → ℕ
 bitsOf [] = 0
 bitsOf (s ∷ ss) = 2 ^ suc (s .1) - 2 ^ (s .0) + bitsOf ss
 
 -- the bytes of each name in two rows, those below 64 first; and two rows of none
-abbrev rowsOf : List (List Span) → List ℕ
+abbrev rowsOf : List (List (ℕ × ℕ)) → List ℕ
 rowsOf [] = 0 ∷ 0 ∷ []
 rowsOf (ss ∷ rest) = bitsOf ss % 2 ^ 64 ∷ bitsOf ss / 2 ^ 64 ∷ rowsOf rest
 
@@ -36,7 +36,7 @@ beq-same false false e = refl
 
 -- the table's rule, one test of every name and byte: a bit is set exactly where the name lists the byte
 bit-rule : (k x : ℕ) → k < 12 → x < 256 → ltb x 128 && bitSet (128 * k + x) ≡ named k x
-unfolding named spans
+unfolding named table spans
 bit-rule k x hk hx =
     beq-same _ _ (all-at-rows 12 256 (λ k x. Bool·beq (ltb x 128 && bitSet (128 * k + x)) (named k x)) refl k x hk hx)
 
@@ -49,5 +49,5 @@ pub named-above : (k x : ℕ) → k < 12 → 128 ≤ x → x < 256 → false ≡
 named-above k x hk h hx = rw (le-ltb _ _ h) at (bit-rule k x hk hx)
 
 pub named-none : (k x : ℕ) → 12 ≤ k → false ≡ named k x
-unfolding named spans
-named-none k x h = sym (ap (λ (ss : List Span). inSpans ss x) (List·getD-eq-default spans [] h))
+unfolding named table spans
+named-none k x h = sym (ap (λ (ss : List (ℕ × ℕ)). inSpans ss x) (List·getD-eq-default spans [] h))

@@ -13,7 +13,7 @@ use borrow.Author.Tests.{ne-eqb}
 use Rattle.classes.proofs.PlainLaws.{plain-less}
 use Rattle.classes.proofs.SizeLaws.{Within, next-within}
 use Rattle.classes.specs.Members.{Member, lists, anyLists, Step, close, broken, member, nextMember, Members, longer, andMember, membersAfter, members}
-use Rattle.classes.specs.Scan.{scanned, PlainTo}
+use Rattle.classes.specs.inner.Scan.{scanned, PlainTo}
 use Rattle.classes.specs.declared.class.Tested.{Tested}
 use Rattle.classes.specs.declared.class.Tested.the-variants.{Bad, Read}
 

@@ -8,13 +8,35 @@ use native.Mathlib.Omega.{arith}
 use lib.Dec.{eqb, leb, ltb}
 use lib.ListN.{length, getD}
 use borrow.Author.Tests.{eqb-true, leb-false}
-use Rattle.classes.proofs.TableLaws.{and-split}
+use Rattle.bytestrings.specs.Text.{char}
+use Rattle.bytestrings.proofs.BoolLaws.{and-split}
 use Rattle.classes.specs.Names.{whichName}
-use Rattle.classes.specs.Members.{Member, Step, close, broken, member, escapedEnd, rangeEnd, single, escapedMember, untilClose, noName, nameOf, nameAt, bracketAt, nextMember, Members, longer, andMember, membersAfter, members}
+use Rattle.classes.specs.Members.{
+  Member,
+  Step,
+  close,
+  broken,
+  member,
+  escapedEnd,
+  rangeEnd,
+  single,
+  escapedMember,
+  untilClose,
+  noName,
+  nameOf,
+  nameAt,
+  bracketAt,
+  nextMember,
+  Members,
+  longer,
+  andMember,
+  membersAfter,
+  members,
+}
 
 -- what stands next in q: a member is written with at least one byte and at most those of q, and the closing `]` is the first byte
 abbrev pub Within : List ℕ → Step → Type 0
-Within q close = getD q 0 0 ≡ 93
+Within q close = getD q 0 0 ≡ char "]"
 Within q broken = Unit {0}
 Within q (member m n) = (1 ≤ n) × (n ≤ length q)
 
@@ -30,13 +52,13 @@ module _ (q : List ℕ) where
   rangeEnd-within : (b n : ℕ) (p : List ℕ) → 1 ≤ n → n + length p + 1 ≤ length q → Within q (rangeEnd b n p)
   rangeEnd-within b n [] l h = omega arith
   rangeEnd-within b n (y ∷ p) l h =
-      cond-within (eqb y 93) _ _ (λ e. omega arith)
-      (λ e. cond-within (eqb y 92) _ _ (λ f. escapedEnd-within b n p (omega arith)) (λ f. omega arith))
+      cond-within (eqb y (char "]")) _ _ (λ e. omega arith)
+      (λ e. cond-within (eqb y (char "\\")) _ _ (λ f. escapedEnd-within b n p (omega arith)) (λ f. omega arith))
 
   single-within : (b n : ℕ) (p : List ℕ) → 1 ≤ n → n + length p ≤ length q → Within q (single b n p)
   unfolding single
   single-within b n [] l h = omega arith
-  single-within b n (y ∷ p) l h = cond-within (eqb y 45) _ _ (λ e. rangeEnd-within b n p l (omega arith)) (λ e. omega arith)
+  single-within b n (y ∷ p) l h = cond-within (eqb y (char "-")) _ _ (λ e. rangeEnd-within b n p l (omega arith)) (λ e. omega arith)
 
   escaped-within : (p : List ℕ) → length p + 1 ≤ length q → Within q (escapedMember p)
   escaped-within [] h = tt
@@ -53,19 +75,19 @@ bracket-within : (x : ℕ) (q : List ℕ) → Within (x ∷ q) (bracketAt q)
 unfolding bracketAt
 bracket-within x [] = omega arith
 bracket-within x (y ∷ q) =
-    cond-within (x ∷ y ∷ q) (eqb y 58) _ _ (λ e. name-within (x ∷ y ∷ q) q (omega arith)) (λ e. single-within (x ∷ y ∷ q) 91 1 (y ∷ q) (omega arith) (omega arith))
+    cond-within (x ∷ y ∷ q) (eqb y (char ":")) _ _ (λ e. name-within (x ∷ y ∷ q) q (omega arith)) (λ e. single-within (x ∷ y ∷ q) (char "[") 1 (y ∷ q) (omega arith) (omega arith))
 
 pub next-within : (first : Bool) (q : List ℕ) → Within q (nextMember first q)
 unfolding nextMember
 next-within first [] = tt
 next-within first (x ∷ q) =
-    cond-within (x ∷ q) (eqb x 93 && not first) _ _ (λ e. eqb-true x 93 (and-split _ _ e .0))
-    (λ e. cond-within (x ∷ q) (eqb x 92) _ _ (λ f. escaped-within (x ∷ q) q (omega arith))
-    (λ f. cond-within (x ∷ q) (eqb x 91) _ _ (λ g. bracket-within x q) (λ g. single-within (x ∷ q) x 1 q (omega arith) (omega arith))))
+    cond-within (x ∷ q) (eqb x (char "]") && not first) _ _ (λ e. eqb-true x (char "]") (and-split _ _ e .0))
+    (λ e. cond-within (x ∷ q) (eqb x (char "\\")) _ _ (λ f. escaped-within (x ∷ q) q (omega arith))
+    (λ f. cond-within (x ∷ q) (eqb x (char "[")) _ _ (λ g. bracket-within x q) (λ g. single-within (x ∷ q) x 1 q (omega arith) (omega arith))))
 
 -- n bytes of q, the last a `]`
 abbrev pub Ends : List ℕ → ℕ → Type 0
-Ends q n = (1 ≤ n) × (n ≤ length q) × (getD q (n - 1) 0 ≡ 93)
+Ends q n = (1 ≤ n) × (n ≤ length q) × (getD q (n - 1) 0 ≡ char "]")
 
 pub ends-more : (x : ℕ) (q : List ℕ) (n : ℕ) → Ends q n → Ends (x ∷ q) (suc n)
 ends-more x q zero h = absurd (omega arith)

@@ -1,21 +1,18 @@
--- A test of every number below a bound, which is computed, and what it says of each: a table's rule is one such test.
+-- A test of every number below a bound, which is computed, and what it shows of each: a table's rule is one such test.
 -- And what is known of a place for which no arm of a `match` stands.
-use mathlib.Core.Path.{_≡_, refl, sym, ap, _∙_}
+use mathlib.Core.Path.{_≡_, sym, ap, _∙_}
 use mathlib.Core.Logic.{⊎-elim}
-use mathlib.Core.Bool.{Bool, true, false, _&&_, false≢true}
+use mathlib.Core.Bool.{Bool, true, _&&_}
 use mathlib.Core.List.{List}
 use Prim.Native.Nat.{ℕ, zero, suc, _<_, _≤_}
 use native.Mathlib.Nat.{not-suc-le-zero, le-of-suc-le-suc, eq-or-lt-of-le}
 use native.Mathlib.Omega.{arith}
 use lib.ListN.{length, getD, List·getD-eq-default}
+use Rattle.bytestrings.proofs.BoolLaws.{and-split}
 
 abbrev pub allBelow : ℕ → (ℕ → Bool) → Bool
 allBelow zero f = true
 allBelow (suc n) f = f n && allBelow n f
-
-pub and-split : (a b : Bool) → (a && b) ≡ true → (a ≡ true) × (b ≡ true)
-and-split true b e = (refl, e)
-and-split false b e = absurd (false≢true e)
 
 pub all-at : (n : ℕ) (f : ℕ → Bool) → allBelow n f ≡ true → (k : ℕ) → k < n → f k ≡ true
 all-at zero f e k h = absurd (not-suc-le-zero h)
@@ -27,7 +24,7 @@ all-at (suc n) f e k h =
 pub all-at-rows : (n m : ℕ) (f : ℕ → ℕ → Bool) → allBelow n (λ k. allBelow m (f k)) ≡ true → (k j : ℕ) → k < n → j < m → f k j ≡ true
 all-at-rows n m f e k j hk hj = all-at m (f k) (all-at n (λ i. allBelow m (f i)) e k hk) j hj
 
--- i is none of the numbers below n, each said by an arm
+-- i is none of the numbers below n, each the number of an arm
 abbrev NoneBelow : ℕ → ℕ → Type 0
 NoneBelow zero i = Unit {0}
 NoneBelow (suc n) i = NoneBelow n i × (i ≡ n → ⊥)

@@ -1,8 +1,5 @@
--- What a reader must believe:
-pub mod Letters
+-- What a reader must believe, in the paper's order:
 pub mod Names
 pub mod Members
--- Inner definitions, which only the contracts of private functions cite:
-pub mod Tables
-pub mod Scan
-pub mod Sizes
+-- Inner definitions, none of which a public contract cites:
+pub mod inner

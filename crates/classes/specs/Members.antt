@@ -5,7 +5,9 @@ use mathlib.Core.List.{List, [], _∷_}
 use mathlib.Core.Option.{Option, none, some}
 use lib.Dec.{eqb, leb, ltb}
 use lib.ListN.{length, getD, take, drop}
-use Rattle.classes.specs.Letters.{folded}
+use Rattle.bytestrings.specs.Text.{char}
+use Rattle.bytestrings.specs.Bytes.{lengthUntil, inRange}
+use Rattle.bytestrings.specs.Letters.{folded}
 use Rattle.classes.specs.Names.{named, whichName}
 use Rattle.classes.specs.declared.class.Tested.{Tested}
 use Rattle.classes.specs.declared.class.Tested.the-variants.{Bad, Read}
@@ -21,7 +23,7 @@ pub data Member : Type 0 where
 -- a member lists the byte x. "A range written high to low still lists its first byte."
 unfoldable pub lists : Member → ℕ → Bool
 lists (byte b) x = eqb x b
-lists (range a b) x = eqb x a || leb a x && leb x b
+lists (range a b) x = eqb x a || inRange a b x
 lists (name k) x = named k x
 
 -- one of the members lists the byte x
@@ -30,13 +32,13 @@ anyLists [] x = false
 anyLists (m ∷ ms) x = lists m x || anyLists ms x
 
 -- the class accepts the byte x: case is folded in "the list in a class before "not""
-unfoldable pub accepted : Bool → Bool → List Member → ℕ → Bool
-accepted fold false ms x = folded fold (anyLists ms) x
-accepted fold true ms x = not (folded fold (anyLists ms) x)
+unfoldable pub classAccepts : Bool → Bool → List Member → ℕ → Bool
+classAccepts fold false ms x = folded fold (anyLists ms) x
+classAccepts fold true ms x = not (folded fold (anyLists ms) x)
 
 -- How the members are read, from the left.
 
--- what stands next in a class: its closing `]`; nothing that can be read, and the class is "broken"; or a member and the number of
+-- what stands next in a class: its closing `]`; nothing that can be read, and the pattern is *broken*, 01's term; or a member and the number of
 -- bytes that it is written with
 pub data Step : Type 0 where
   close : Step
@@ -52,15 +54,15 @@ escapedEnd b n (y ∷ q) = member (range b y) (n + 3)
 abbrev pub rangeEnd : ℕ → ℕ → List ℕ → Step
 rangeEnd b n [] = member (byte b) n
 rangeEnd b n (y ∷ q) =
-    cond (eqb y 93) (member (byte b) n)
-    (cond (eqb y 92) (escapedEnd b n q)
+    cond (eqb y (char "]")) (member (byte b) n)
+    (cond (eqb y (char "\\")) (escapedEnd b n q)
     (member (range b y) (n + 2)))
 
 -- the single member b of n bytes, or the range that it begins: "a range with `-` between a single member and a next byte".
 -- "After a range or a name, `-` is plain": only here is a `-` looked for
 unfoldable pub single : ℕ → ℕ → List ℕ → Step
 single b n [] = member (byte b) n
-single b n (y ∷ q) = cond (eqb y 45) (rangeEnd b n q) (member (byte b) n)
+single b n (y ∷ q) = cond (eqb y (char "-")) (rangeEnd b n q) (member (byte b) n)
 
 -- "`\x`": after `\`
 abbrev pub escapedMember : List ℕ → Step
@@ -69,38 +71,37 @@ escapedMember (y ∷ q) = single y 2 q
 
 -- how many bytes stand before "the next `]`"
 unfoldable pub untilClose : List ℕ → ℕ
-untilClose [] = 0
-untilClose (y ∷ q) = cond (eqb y 93) 0 (suc (untilClose q))
+untilClose q = lengthUntil (λ y. eqb y (char "]")) q
 
 -- "nothing stands between, or the byte before the `]` isn't `:`": after `[:`
 abbrev pub noName : List ℕ → Bool
-noName q = eqb (untilClose q) 0 || not (eqb (getD q (untilClose q - 1) 0) 58)
+noName q = eqb (untilClose q) 0 || not (eqb (getD q (untilClose q - 1) 0) (char ":"))
 
 -- the bytes between `[:` and `:]`
 abbrev pub nameOf : List ℕ → List ℕ
 nameOf q = take (untilClose q - 1) q
 
 -- "After `[:` look for the next `]`: none, the pattern is broken; .. the inner `[` is a plain member and reading goes on at the `:`;
--- a name outside the twelve, the empty name too, is broken"
+-- a name outside the twelve, the empty name too, is broken". Three bytes more than stand before the `]`: `[:` and that `]`
 unfoldable pub nameAt : List ℕ → Step
 nameAt q =
     cond (leb (length q) (untilClose q)) broken
-    (cond (noName q) (member (byte 91) 1)
+    (cond (noName q) (member (byte (char "[")) 1)
     (cond (ltb (whichName (nameOf q)) 12) (member (name (whichName (nameOf q))) (untilClose q + 3))
     broken))
 
 -- after `[` among the members
 unfoldable pub bracketAt : List ℕ → Step
-bracketAt [] = member (byte 91) 1
-bracketAt (y ∷ q) = cond (eqb y 58) (nameAt q) (single 91 1 (y ∷ q))
+bracketAt [] = member (byte (char "[")) 1
+bracketAt (y ∷ q) = cond (eqb y (char ":")) (nameAt q) (single (char "[") 1 (y ∷ q))
 
 -- the next member, or the closing `]`: "a `]` as first member is a member". "No closing `]` is broken."
 unfoldable pub nextMember : Bool → List ℕ → Step
 nextMember first [] = broken
 nextMember first (x ∷ q) =
-    cond (eqb x 93 && not first) close
-    (cond (eqb x 92) (escapedMember q)
-    (cond (eqb x 91) (bracketAt q)
+    cond (eqb x (char "]") && not first) close
+    (cond (eqb x (char "\\")) (escapedMember q)
+    (cond (eqb x (char "[")) (bracketAt q)
     (single x 1 q)))
 
 -- the members of a class, and how many bytes they are written with up to the closing `]`, which counts
@@ -130,7 +131,7 @@ members [] k first = none
 members (x ∷ q) zero first = membersAfter (nextMember first (x ∷ q)) (λ n. members q n false)
 members (x ∷ q) (suc k) first = longer (members q k first)
 
--- a class after its `[`: whether it has "perhaps `!` or `^` for "not"", its members, and how many bytes it is written with up to its `]`
+-- a class after its `[`: whether it has "perhaps `!` or `^` for "not"", its members, and how many bytes it is written with after its `[`, its `]` counted
 pub record Class : Type 0 where
   pub negated : Bool
   pub list : List Member
@@ -144,16 +145,16 @@ classOf neg n (some r) = some (record { negated = neg; list = r .list; size = n 
 -- "perhaps `!` or `^` for "not""
 abbrev pub notSign : List ℕ → Bool
 notSign [] = false
-notSign (x ∷ q) = eqb x 33 || eqb x 94
+notSign (x ∷ q) = eqb x (char "!") || eqb x (char "^")
 
 -- none: broken
 unfoldable pub readClass : List ℕ → Option Class
 readClass q = cond (notSign q) (classOf true 1 (members (drop 1 q) 0 true)) (classOf false 0 (members q 0 true))
 
--- what the code answers for the class that was read: broken, or whether it accepts the byte x, with its size. Only this names the code's answer
+-- what the code answers for the class that was read: broken, or whether it accepts the byte x, with its size
 unfoldable pub tested : Bool → ℕ → Option Class → Tested
 tested fold x none = Bad
-tested fold x (some c) = Read (accepted fold (c .negated) (c .list) x) (c .size)
+tested fold x (some c) = Read (classAccepts fold (c .negated) (c .list) x) (c .size)
 
 -- how many bytes the class that was read is written with after its `[`; 0: broken
 unfoldable pub classSize : Option Class → ℕ

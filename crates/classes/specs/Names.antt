@@ -1,63 +1,44 @@
 -- Document 01, "Patterns": "one of the twelve names .. over ASCII as in the POSIX locale".
 use Prim.Native.Nat.{ℕ, suc}
-use mathlib.Core.Bool.{Bool, true, false, cond, _&&_, _||_}
-use mathlib.Core.List.{List, [], _∷_}
-use lib.Dec.{eqb, leb}
+use mathlib.Core.Bool.{Bool, false, cond, _||_}
+use mathlib.Core.List.{List, [], _∷_, map}
 use lib.ListN.{getD}
+use Rattle.bytestrings.specs.Bytes.{inRange, sameBytes}
+use Rattle.bytestrings.specs.Text.{char, text, tab, carriageReturn}
 
--- the twelve names, in the paper's order
+-- the twelve names, in the paper's order, each with the ranges of bytes that it lists, by their first and last byte
+unfoldable pub table : List (List ℕ × List (ℕ × ℕ))
+table =
+    (text "alnum", (char "0", char "9") ∷ (char "A", char "Z") ∷ (char "a", char "z") ∷ [])
+    ∷ (text "alpha", (char "A", char "Z") ∷ (char "a", char "z") ∷ [])
+    ∷ (text "blank", (tab, tab) ∷ (char " ", char " ") ∷ [])
+    ∷ (text "cntrl", (0, 31) ∷ (127, 127) ∷ [])
+    ∷ (text "digit", (char "0", char "9") ∷ [])
+    ∷ (text "graph", (char "!", char "~") ∷ [])
+    ∷ (text "lower", (char "a", char "z") ∷ [])
+    ∷ (text "print", (char " ", char "~") ∷ [])
+    ∷ (text "punct", (char "!", char "/") ∷ (char ":", char "@") ∷ (char "[", char "`") ∷ (char "{", char "~") ∷ [])
+    ∷ (text "space", (tab, carriageReturn) ∷ (char " ", char " ") ∷ [])  -- 11 and 12 too, which git lacks
+    ∷ (text "upper", (char "A", char "Z") ∷ [])
+    ∷ (text "xdigit", (char "0", char "9") ∷ (char "A", char "F") ∷ (char "a", char "f") ∷ [])
+    ∷ []
+
+-- the names
 unfoldable pub names : List (List ℕ)
-names =
-    (97 ∷ 108 ∷ 110 ∷ 117 ∷ 109 ∷ [])  -- alnum
-    ∷ (97 ∷ 108 ∷ 112 ∷ 104 ∷ 97 ∷ [])  -- alpha
-    ∷ (98 ∷ 108 ∷ 97 ∷ 110 ∷ 107 ∷ [])  -- blank
-    ∷ (99 ∷ 110 ∷ 116 ∷ 114 ∷ 108 ∷ [])  -- cntrl
-    ∷ (100 ∷ 105 ∷ 103 ∷ 105 ∷ 116 ∷ [])  -- digit
-    ∷ (103 ∷ 114 ∷ 97 ∷ 112 ∷ 104 ∷ [])  -- graph
-    ∷ (108 ∷ 111 ∷ 119 ∷ 101 ∷ 114 ∷ [])  -- lower
-    ∷ (112 ∷ 114 ∷ 105 ∷ 110 ∷ 116 ∷ [])  -- print
-    ∷ (112 ∷ 117 ∷ 110 ∷ 99 ∷ 116 ∷ [])  -- punct
-    ∷ (115 ∷ 112 ∷ 97 ∷ 99 ∷ 101 ∷ [])  -- space
-    ∷ (117 ∷ 112 ∷ 112 ∷ 101 ∷ 114 ∷ [])  -- upper
-    ∷ (120 ∷ 100 ∷ 105 ∷ 103 ∷ 105 ∷ 116 ∷ [])  -- xdigit
-    ∷ []
+names = map (λ row. row .0) table
 
--- the first and the last byte of a range
-abbrev pub Span : Type 0
-Span = ℕ × ℕ
-
--- the bytes of each of the twelve, as ranges, in the order of `names`
-unfoldable pub spans : List (List Span)
-spans =
-    ((48, 57) ∷ (65, 90) ∷ (97, 122) ∷ [])  -- alnum: digits, A to Z, a to z
-    ∷ ((65, 90) ∷ (97, 122) ∷ [])  -- alpha
-    ∷ ((9, 9) ∷ (32, 32) ∷ [])  -- blank: tab and space
-    ∷ ((0, 31) ∷ (127, 127) ∷ [])  -- cntrl
-    ∷ ((48, 57) ∷ [])  -- digit
-    ∷ ((33, 126) ∷ [])  -- graph: print without space
-    ∷ ((97, 122) ∷ [])  -- lower
-    ∷ ((32, 126) ∷ [])  -- print
-    ∷ ((33, 47) ∷ (58, 64) ∷ (91, 96) ∷ (123, 126) ∷ [])  -- punct: graph without alnum
-    ∷ ((9, 13) ∷ (32, 32) ∷ [])  -- space: tab, newline, 11, 12, CR and space
-    ∷ ((65, 90) ∷ [])  -- upper
-    ∷ ((48, 57) ∷ (65, 70) ∷ (97, 102) ∷ [])  -- xdigit: digits, A to F, a to f
-    ∷ []
+-- the ranges of each
+unfoldable pub spans : List (List (ℕ × ℕ))
+spans = map (λ row. row .1) table
 
 -- x lies in one of the ranges
-abbrev pub inSpans : List Span → ℕ → Bool
+abbrev pub inSpans : List (ℕ × ℕ) → ℕ → Bool
 inSpans [] x = false
-inSpans (s ∷ ss) x = leb (s .0) x && leb x (s .1) || inSpans ss x
+inSpans (s ∷ ss) x = inRange (s .0) (s .1) x || inSpans ss x
 
 -- the k-th name lists the byte x; there is no name from 12 on
 unfoldable pub named : ℕ → ℕ → Bool
 named k x = inSpans (getD spans k []) x
-
--- the two are the same bytes
-unfoldable pub sameBytes : List ℕ → List ℕ → Bool
-sameBytes [] [] = true
-sameBytes [] (y ∷ b) = false
-sameBytes (x ∷ a) [] = false
-sameBytes (x ∷ a) (y ∷ b) = eqb x y && sameBytes a b
 
 -- how many of the names stand before this one; all of them where it is none of them
 abbrev pub placeIn : List ℕ → List (List ℕ) → ℕ

@@ -5,13 +5,13 @@ ghost use Prim.Native.Nat.{_<_, _+_};
 ghost use lib.Dec.{eqb};
 ghost use lib.ListN.{length, drop};
 ghost use Rattle.classes.specs.Members.{byte, range, name, lists, nextMember, members, readClass, tested, classSize, notSign};
-ghost use Rattle.classes.specs.Scan.{stepOf, plainPlaces, PlainTo, scanned};
-use crate::letters::to_lower;
-use crate::letters::to_upper;
+ghost use Rattle.classes.specs.inner.Scan.{stepOf, plainPlaces, PlainTo, scanned};
 use crate::members::Next;
 use crate::members::next_member;
 use crate::names::name_has;
 use crate::size::members_size;
+use bytestrings::letters::to_lower;
+use bytestrings::letters::to_upper;
 
 // What the test of a byte against a class answers: the class is broken, or whether it accepts the byte, and the class's size after its `[`.
 pub enum Tested {
@@ -27,7 +27,7 @@ fn is_negated(q: &[u8]) -> bool
         return false;
     }
     let x = q[0];
-    x == 33 || x == 94
+    x == b'!' || x == b'^'
 }
 
 // Whether the byte b is x or y.
@@ -69,7 +69,7 @@ fn next_at(q: &[u8], i: usize, plain: usize) -> Next
     requires { ⌜ (i < length (now q)) × PlainTo (now q) (i + 2) (plain + 1) ⌝ }
     ensures { λ r. ⌜ (stepOf r ≡ nextMember (eqb i 0) (drop i (now (q .entry)))) × PlainTo (now (q .entry)) (i + 2) (i + 2 + plainPlaces r) ⌝ }
 {
-    if q[i] == 91 && i + 2 <= plain && q[i + 1] == 58 {
+    if q[i] == b'[' && i + 2 <= plain && q[i + 1] == b':' {
         return Next::Plain(plain - i - 2);
     }
     next_member(&q[i..], i == 0)
@@ -103,7 +103,7 @@ fn scan_members(q: &[u8], x: u8, y: u8) -> Tested
                 i += n;
             }
             Next::Plain(n) => {
-                hit = hit || byte_lists(91, x, y);
+                hit = hit || byte_lists(b'[', x, y);
                 plain = i + 2 + n;
                 i += 1;
             }

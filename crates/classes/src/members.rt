@@ -2,8 +2,9 @@
 ghost use mathlib.Core.Path.{_≡_};
 ghost use Prim.Native.Nat.{_<_, _+_};
 ghost use Rattle.classes.specs.Members.{single, untilClose, nameAt, bracketAt, nextMember};
-ghost use Rattle.classes.specs.Scan.{stepOf, plainPlaces, PlainTo};
+ghost use Rattle.classes.specs.inner.Scan.{stepOf, plainPlaces, PlainTo};
 use crate::names::which_name;
+use bytestrings::find_byte;
 
 // What stands next in a class: its closing `]`, nothing that can be read, or a member: a byte, a range or one of the twelve names, and last
 // the number of bytes that it is written with. `Plain(n)`: a `[` that is a plain member though `[:` stands there,
@@ -25,14 +26,14 @@ fn read_single(b: u8, n: usize, q: &[u8]) -> Next
     if q.len() < 2 {
         return Next::Byte(b, n);
     }
-    if q[0] != 45 {
+    if q[0] != b'-' {
         return Next::Byte(b, n);
     }
     let y = q[1];
-    if y == 93 {
+    if y == b']' {
         return Next::Byte(b, n);
     }
-    if y != 92 {
+    if y != b'\\' {
         return Next::Range(b, y, n + 2);
     }
     if q.len() < 3 {
@@ -46,14 +47,7 @@ fn read_single(b: u8, n: usize, q: &[u8]) -> Next
 pub fn until_close(q: &[u8]) -> usize
     ensures { λ r. ⌜ r ≡ untilClose (now (q .entry)) ⌝ }
 {
-    let mut i = 0;
-    while i < q.len() {
-        if q[i] == 93 {
-            return i;
-        }
-        i += 1;
-    }
-    i
+    find_byte(q, 0, b']')
 }
 
 // What a `[:` begins; q stands after it.
@@ -67,7 +61,7 @@ fn read_name(q: &[u8]) -> Next
     if n == 0 {
         return Next::Plain(n);
     }
-    if q[n - 1] != 58 {
+    if q[n - 1] != b':' {
         return Next::Plain(n);
     }
     let k = which_name(&q[..n - 1]);
@@ -82,12 +76,12 @@ fn read_bracket(q: &[u8]) -> Next
     ensures { λ r. ⌜ (stepOf r ≡ bracketAt (now (q .entry))) × PlainTo (now (q .entry)) 1 (1 + plainPlaces r) ⌝ }
 {
     if q.len() == 0 {
-        return Next::Byte(91, 1);
+        return Next::Byte(b'[', 1);
     }
-    if q[0] == 58 {
+    if q[0] == b':' {
         return read_name(&q[1..]);
     }
-    read_single(91, 1, q)
+    read_single(b'[', 1, q)
 }
 
 // The next member of q, or the closing `]`. `first`: no member was read yet.
@@ -98,18 +92,18 @@ pub fn next_member(q: &[u8], first: bool) -> Next
         return Next::Broken;
     }
     let x = q[0];
-    if x == 93 {
+    if x == b']' {
         if !first {
             return Next::Close;
         }
     }
-    if x == 92 {
+    if x == b'\\' {
         if q.len() < 2 {
             return Next::Broken;
         }
         return read_single(q[1], 2, &q[2..]);
     }
-    if x == 91 {
+    if x == b'[' {
         return read_bracket(&q[1..]);
     }
     read_single(x, 1, &q[1..])

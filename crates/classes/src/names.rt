@@ -3,7 +3,7 @@ ghost use mathlib.Core.Path.{_≡_};
 ghost use Prim.Native.Nat.{_<_};
 ghost use lib.ListN.{length, getD};
 ghost use Rattle.classes.specs.Names.{named, whichName};
-ghost use Rattle.classes.specs.Tables.{wordOf, nameWords};
+ghost use Rattle.classes.specs.inner.PackedNames.{packedName, packedNames};
 
 // Ranges of bytes, a bit for each byte: from `first` to `last` it is `ALL << first & ALL >> (63 - last)`.
 // From 64 on bytes are counted from there: `ALL << (first - 64) & ALL >> (127 - last)`.
@@ -121,9 +121,9 @@ fn row_at(rows: [u64; 26], i: usize) -> u64
 }
 
 // The letters of the k-th name.
-fn name_word(k: usize) -> u64
+fn packed_name(k: usize) -> u64
     requires { ⌜ k < 12 ⌝ }
-    ensures { λ r. ⌜ r ≡ getD nameWords k 0 ⌝ }
+    ensures { λ r. ⌜ r ≡ getD packedNames k 0 ⌝ }
 {
     NAMES[k]
 }
@@ -153,9 +153,9 @@ fn wide(x: u8) -> u64
 }
 
 // The number of five bytes: all but one of the names have five letters.
-fn word_of_five(name: &[u8]) -> u64
+fn pack_five(name: &[u8]) -> u64
     requires { ⌜ length (now name) ≡ 5 ⌝ }
-    ensures { λ r. ⌜ r ≡ wordOf (now (name .entry)) ⌝ }
+    ensures { λ r. ⌜ r ≡ packedName (now (name .entry)) ⌝ }
 {
     let a = wide(name[0]);
     let b = wide(name[1]);
@@ -166,39 +166,39 @@ fn word_of_five(name: &[u8]) -> u64
 }
 
 // The number of any bytes, and 0 where they are too many.
-fn word_of_any(name: &[u8]) -> u64
-    ensures { λ r. ⌜ r ≡ wordOf (now (name .entry)) ⌝ }
+fn pack_any(name: &[u8]) -> u64
+    ensures { λ r. ⌜ r ≡ packedName (now (name .entry)) ⌝ }
 {
     let mut i = name.len();
     if 7 < i {
         return 0;
     }
-    let mut word: u64 = 1;
+    let mut number: u64 = 1;
     while 0 < i {
         i -= 1;
-        word = word * 256 + wide(name[i]);
+        number = number * 256 + wide(name[i]);
     }
-    word
+    number
 }
 
-// The bytes of `name` as one number, as `name_word` holds them.
-fn word_of(name: &[u8]) -> u64
-    ensures { λ r. ⌜ r ≡ wordOf (now (name .entry)) ⌝ }
+// The bytes of `name` packed into one number, as `packed_name` holds them.
+fn pack(name: &[u8]) -> u64
+    ensures { λ r. ⌜ r ≡ packedName (now (name .entry)) ⌝ }
 {
     if name.len() == 5 {
-        return word_of_five(name);
+        return pack_five(name);
     }
-    word_of_any(name)
+    pack_any(name)
 }
 
 // Which of the twelve names it is, or 12.
 pub fn which_name(name: &[u8]) -> usize
     ensures { λ r. ⌜ r ≡ whichName (now (name .entry)) ⌝ }
 {
-    let word = word_of(name);
+    let number = pack(name);
     let mut k = 0;
     while k < 12 {
-        if word == name_word(k) {
+        if number == packed_name(k) {
             return k;
         }
         k += 1;

@@ -4,7 +4,7 @@ ghost use mathlib.Core.Bool.{true, false};
 ghost use Prim.Native.Nat.{ℕ, _≤_, _<_, _+_};
 ghost use lib.ListN.{length, drop};
 ghost use Rattle.classes.specs.Members.{single, untilClose, nameAt, nextMember, members};
-ghost use Rattle.classes.specs.Sizes.{Sized, membersSize, startsName, NextClose};
+ghost use Rattle.classes.specs.inner.Sizes.{Sized, membersSize, startsName, NextClose};
 use crate::members::until_close;
 use crate::names::which_name;
 

@@ -1,6 +1,7 @@
 -- Laws that the crates above cite too.
-pub mod ByteLaws
-pub mod BeforeLaws
+pub mod ComponentLaws
 pub mod PatternLaws
 -- Laws that only this crate's proofs use.
-pub mod EndingLaws
+pub mod PrefilterLaws
+-- Theorem: matching, by the relation.
+pub mod Meaning

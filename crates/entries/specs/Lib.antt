@@ -1,6 +1,4 @@
--- What a reader must believe:
+-- What a reader must believe, in the paper's order:
 pub mod Entries
--- Theorems about them: matching, by the relation.
-pub mod Meaning
--- Inner definitions, which only the contracts of private functions cite:
-pub mod Ending
+-- Inner definitions, none of which a public contract cites:
+pub mod inner

@@ -1,23 +1,26 @@
-// How the pattern of a line is matched against an entry.
+// How the pattern of a line, ignore or attribute, is matched against an entry: directories only, anchored or by the last component. Most lines match
+// no entry at hand, so a prefilter asks their last and first byte before the matcher. For a user: docs/RULES.md, "Ignore lines".
 ghost use mathlib.Core.Path.{_≡_};
-ghost use Rattle.wildmatch.specs.Test.{matchesTest};
-ghost use Rattle.entries.specs.Entries.{has, bareMatches, patternMatches, componentStart};
+ghost use mathlib.Core.Bool.{true};
+ghost use Rattle.wildmatch.specs.MatchTest.{matchesTest};
+ghost use Rattle.bytestrings.specs.Bytes.{has};
+ghost use Rattle.entries.specs.Entries.{against, bareMatches, patternMatches, componentStart};
+ghost use Rattle.bytestrings.specs.Text.{char};
 
-mod ending;
-mod front;
+mod prefilter;
 
-use ending::cannot_match;
-use front::cannot_begin;
+use prefilter::first_byte_excludes;
+use prefilter::last_byte_excludes;
 use wildmatch::Mode;
 use wildmatch::answer::matches;
 
 // Whether the pattern has a `/`.
 fn has_slash(pattern: &[u8]) -> bool
-    ensures { λ r. ⌜ r ≡ has 47 (now (pattern .entry)) ⌝ }
+    ensures { λ r. ⌜ r ≡ has (char "/") (now (pattern .entry)) ⌝ }
 {
     let mut i = 0;
     while i < pattern.len() {
-        if pattern[i] == 47 {
+        if pattern[i] == b'/' {
             return true;
         }
         i += 1;
@@ -29,7 +32,7 @@ fn has_slash(pattern: &[u8]) -> bool
 fn text_matches(pattern: &[u8], text: &[u8], mode: Mode) -> bool
     ensures { λ r. ⌜ r ≡ matchesTest mode (now (pattern .entry)) (now (text .entry)) ⌝ }
 {
-    if cannot_begin(pattern, text, mode.fold) {
+    if first_byte_excludes(pattern, text, mode.fold) {
         return false;
     }
     matches(pattern, text, mode)
@@ -37,12 +40,12 @@ fn text_matches(pattern: &[u8], text: &[u8], mode: Mode) -> bool
 
 // Whether a pattern whose last `/` has gone matches: one with a `/` the rest, in path mode; any other the component.
 fn bare_matches(pattern: &[u8], rest: &[u8], component: &[u8], fold: bool) -> bool
-    ensures { λ r. ⌜ r ≡ bareMatches fold (now (rest .entry)) (now (component .entry)) (now (pattern .entry)) ⌝ }
+    ensures { λ r. ⌜ r ≡ bareMatches (against (now (rest .entry)) (now (component .entry)) true fold) (now (pattern .entry)) ⌝ }
 {
     if pattern.len() == 0 {
         return false;
     }
-    if cannot_match(pattern, rest, component, fold) {
+    if last_byte_excludes(pattern, rest, component, fold) {
         return false;
     }
     if has_slash(pattern) {
@@ -50,7 +53,7 @@ fn bare_matches(pattern: &[u8], rest: &[u8], component: &[u8], fold: bool) -> bo
             path: true,
             fold: fold,
         };
-        if pattern[0] != 47 {
+        if pattern[0] != b'/' {
             return text_matches(pattern, rest, anchored);
         }
         if pattern.len() == 1 {
@@ -73,13 +76,13 @@ pub fn pattern_matches(
     directory: bool,
     fold: bool,
 ) -> bool
-    ensures { λ r. ⌜ r ≡ patternMatches fold directory (now (rest .entry)) (now (component .entry)) (now (pattern .entry)) ⌝ }
+    ensures { λ r. ⌜ r ≡ patternMatches (against (now (rest .entry)) (now (component .entry)) directory fold) (now (pattern .entry)) ⌝ }
 {
     let n = pattern.len();
     if n == 0 {
         return false;
     }
-    if pattern[n - 1] != 47 {
+    if pattern[n - 1] != b'/' {
         return bare_matches(pattern, rest, component, fold);
     }
     if directory {
@@ -94,7 +97,7 @@ pub fn component_start(entry: &[u8]) -> usize
 {
     let mut i = entry.len();
     while 0 < i {
-        if entry[i - 1] == 47 {
+        if entry[i - 1] == b'/' {
             return i;
         }
         i -= 1;

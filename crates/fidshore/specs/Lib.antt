@@ -1,4 +1,2 @@
--- What a reader must believe:
+-- What a reader must believe, in the paper's order:
 pub mod Codes
--- Theorems about it: from a code back to its condition.
-pub mod Meaning

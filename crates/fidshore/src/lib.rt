@@ -1,4 +1,4 @@
-// The calls of the C loader: numbers and byte slices in, one code number out.
+// The calls of the C loader, and nothing else: numbers and byte slices in, one code number out. For a user: docs/RULES.md, "Answers".
 ghost use Rattle.fidshore.specs.Codes.{MatchCode, IgnoreCode, AttributeCode};
 use questions::attribute::attribute;
 use questions::attribute::attribute_code;

@@ -1,27 +1,29 @@
--- Document 01, "Ignore lines": what one line says of one entry.
+-- Document 01, "Ignore lines": the effect of one line on one entry.
 use Prim.Native.Nat.{ℕ, zero, suc}
 use mathlib.Core.Bool.{Bool, true, false, cond, _||_}
 use mathlib.Core.List.{List, [], _∷_}
 use mathlib.Core.Option.{Option, none, some}
 use lib.Dec.{eqb}
 use lib.ListN.{take, drop}
+use Rattle.bytestrings.specs.Text.{char, carriageReturn}
 use Rattle.rulefiles.specs.RuleFiles.{Line}
-use Rattle.entries.specs.Entries.{Entry, firstIs, lastIs, front, isEmpty, applies, patternMatches, restOf, componentOf}
-use Rattle.ignorelines.specs.declared.Word.{Word}
-use Rattle.ignorelines.specs.declared.Word.the-variants.{Silent, Ignores, Reincludes}
+use Rattle.entries.specs.Entries.{Entry, applies, Subject, subjectOf, patternMatches}
+use Rattle.bytestrings.specs.Bytes.{firstIs, lastIs, withoutLast, isEmpty}
+use Rattle.ignorelines.specs.declared.Effect.{Effect}
+use Rattle.ignorelines.specs.declared.Effect.the-variants.{None, Ignores, Reincludes}
 
--- an entry's verdict where a line speaks: "ignored or, negated, re-included"
+-- an entry's verdict where a line decides it: "ignored or, negated, re-included". Where none does, it is undecided: "else nothing said"
 pub data Verdict : Type 0 where
   ignored : Verdict
   re-included : Verdict
 
 -- "drop one CR at a line's end, the last line's too"
 unfoldable pub withoutCr : List ℕ → List ℕ
-withoutCr l = cond (lastIs 13 l) (front l) l
+withoutCr l = cond (lastIs carriageReturn l) (withoutLast l) l
 
 -- "Skip a line that is empty or begins with `#`."
 unfoldable pub skipped : List ℕ → Bool
-skipped l = isEmpty l || firstIs 35 l
+skipped l = isEmpty l || firstIs (char "#") l
 
 -- a space stays if anything after it stays
 abbrev pub spaceBefore : ℕ → ℕ
@@ -32,7 +34,7 @@ spaceBefore (suc n) = suc (suc n)
 unfoldable pub kept : Bool → List ℕ → ℕ
 kept escaped [] = zero
 kept true (b ∷ s) = suc (kept false s)
-kept false (b ∷ s) = cond (eqb b 92) (suc (kept true s)) (cond (eqb b 32) (spaceBefore (kept false s)) (suc (kept false s)))
+kept false (b ∷ s) = cond (eqb b (char "\\")) (suc (kept true s)) (cond (eqb b (char " ")) (spaceBefore (kept false s)) (suc (kept false s)))
 
 -- the bytes that stay
 unfoldable pub stripped : List ℕ → List ℕ
@@ -40,26 +42,26 @@ stripped l = take (kept false l) l
 
 -- "A first `!` negates and goes."
 unfoldable pub negated : List ℕ → Bool
-negated l = firstIs 33 l
+negated l = firstIs (char "!") l
 
--- "and goes"
+-- the line without it
 unfoldable pub withoutNot : List ℕ → List ℕ
-withoutNot l = cond (firstIs 33 l) (drop 1 l) l
+withoutNot l = cond (firstIs (char "!") l) (drop 1 l) l
 
--- what a line says that is not skipped and has been stripped, of an entry with this rest and component
-unfoldable pub ruleWord : Bool → Bool → List ℕ → List ℕ → List ℕ → Option Verdict
-ruleWord fold directory rest component l = cond (patternMatches fold directory rest component (withoutNot l)) (some (cond (negated l) re-included ignored)) none
+-- the effect of a line that is not skipped and has been stripped: its pattern matches the entry, or there is none
+unfoldable pub ruleEffect : Subject → List ℕ → Option Verdict
+ruleEffect subject l = cond (patternMatches subject (withoutNot l)) (some (cond (negated l) re-included ignored)) none
 
--- what the bytes of a line say
-unfoldable pub bytesWord : Bool → Bool → List ℕ → List ℕ → List ℕ → Option Verdict
-bytesWord fold directory rest component bytes = cond (skipped (withoutCr bytes)) none (ruleWord fold directory rest component (stripped (withoutCr bytes)))
+-- the effect of a line's bytes
+unfoldable pub lineEffect : Subject → List ℕ → Option Verdict
+lineEffect subject bytes = cond (skipped (withoutCr bytes)) none (ruleEffect subject (stripped (withoutCr bytes)))
 
--- what a line says of an entry, if its file applies
-unfoldable pub ignoreWord : Bool → Entry → Line → Option Verdict
-ignoreWord fold e l = cond (applies (l .base) e) (bytesWord fold (e .directory) (restOf (l .base) e) (componentOf e) (l .bytes)) none
+-- the effect of a line on an entry, if its file applies
+unfoldable pub ignoreEffect : Bool → Entry → Line → Option Verdict
+ignoreEffect fold e l = cond (applies (l .base) e) (lineEffect (subjectOf fold (l .base) e) (l .bytes)) none
 
--- what the code's word stands for
-abbrev pub verdictOf : Word → Option Verdict
-verdictOf Silent = none
+-- the effect that the code's answer stands for
+abbrev pub verdictOf : Effect → Option Verdict
+verdictOf None = none
 verdictOf Ignores = some ignored
 verdictOf Reincludes = some re-included

@@ -1,13 +1,14 @@
-// What one ignore line says of one entry.
+// The effect of one ignore line on one entry: none, or that it ignores or re-includes it. For a user: docs/RULES.md, "Ignore lines".
 ghost use mathlib.Core.Path.{_≡_};
 ghost use mathlib.Core.Bool.{false};
-ghost use Rattle.ignorelines.specs.IgnoreLines.{withoutCr, kept, ruleWord, bytesWord, verdictOf};
-ghost use Rattle.ignorelines.specs.Scan.{escapesNext, keptAfter};
+ghost use Rattle.entries.specs.Entries.{against};
+ghost use Rattle.ignorelines.specs.IgnoreLines.{withoutCr, kept, ruleEffect, lineEffect, verdictOf};
+ghost use Rattle.ignorelines.specs.inner.Scan.{escapesNext, keptAfter};
 use entries::pattern_matches;
 
-// What a line says of an entry.
-pub enum Word {
-    Silent,
+// The effect of a line on an entry.
+pub enum Effect {
+    None,
     Ignores,
     Reincludes,
 }
@@ -20,7 +21,7 @@ fn without_cr(line: &[u8]) -> &[u8]
     if n == 0 {
         return line;
     }
-    if line[n - 1] == 13 {
+    if line[n - 1] == b'\r' {
         return &line[..n - 1];
     }
     line
@@ -33,7 +34,7 @@ fn escapes(b: u8, escaped: bool) -> bool
     if escaped {
         return false;
     }
-    b == 92
+    b == b'\\'
 }
 
 // How many bytes are known to stay after byte b: up to the next place, unless it is a space that may be a trailing one.
@@ -43,7 +44,7 @@ fn kept_after(keep: usize, next: usize, b: u8, escaped: bool) -> usize
     if escaped {
         return next;
     }
-    if b == 32 {
+    if b == b' ' {
         return keep;
     }
     next
@@ -73,41 +74,47 @@ fn kept_length(line: &[u8]) -> usize
     if n == 0 {
         return 0;
     }
-    if line[n - 1] == 32 {
+    if line[n - 1] == b' ' {
         return kept_scan(line);
     }
     n
 }
 
-// What a stripped line says.
-fn rule_word(line: &[u8], rest: &[u8], component: &[u8], directory: bool, fold: bool) -> Word
-    ensures { λ r. ⌜ verdictOf r ≡ ruleWord fold directory (now (rest .entry)) (now (component .entry)) (now (line .entry)) ⌝ }
+// The effect of a line that has been stripped.
+fn rule_effect(line: &[u8], rest: &[u8], component: &[u8], directory: bool, fold: bool) -> Effect
+    ensures { λ r. ⌜ verdictOf r ≡ ruleEffect (against (now (rest .entry)) (now (component .entry)) directory fold) (now (line .entry)) ⌝ }
 {
     if line.len() == 0 {
-        return Word::Silent;
+        return Effect::None;
     }
-    let not = line[0] == 33;
+    let not = line[0] == b'!';
     let start: usize = if not { 1 } else { 0 };
     if pattern_matches(&line[start..], rest, component, directory, fold) {
         if not {
-            return Word::Reincludes;
+            return Effect::Reincludes;
         }
-        return Word::Ignores;
+        return Effect::Ignores;
     }
-    Word::Silent
+    Effect::None
 }
 
-// What a line says of an entry: the rest is the entry from the base on, the component its last one.
-pub fn line_word(line: &[u8], rest: &[u8], component: &[u8], directory: bool, fold: bool) -> Word
-    ensures { λ r. ⌜ verdictOf r ≡ bytesWord fold directory (now (rest .entry)) (now (component .entry)) (now (line .entry)) ⌝ }
+// The effect of a line on an entry: the rest is the entry from the base on, the component its last one.
+pub fn line_effect(
+    line: &[u8],
+    rest: &[u8],
+    component: &[u8],
+    directory: bool,
+    fold: bool,
+) -> Effect
+    ensures { λ r. ⌜ verdictOf r ≡ lineEffect (against (now (rest .entry)) (now (component .entry)) directory fold) (now (line .entry)) ⌝ }
 {
     let content = without_cr(line);
     if content.len() == 0 {
-        return Word::Silent;
+        return Effect::None;
     }
-    if content[0] == 35 {
-        return Word::Silent;
+    if content[0] == b'#' {
+        return Effect::None;
     }
     let n = kept_length(content);
-    rule_word(&content[..n], rest, component, directory, fold)
+    rule_effect(&content[..n], rest, component, directory, fold)
 }

@@ -1,17 +1,4 @@
--- What a reader must believe:
+-- What a reader must believe, in the paper's order:
 pub mod Parts
 pub mod Blanking
 pub mod Claim
--- Theorems about them:
-pub mod SilentLaws
-pub mod CutLaws
-pub mod TopDownLaws
-pub mod SpaceLines
-pub mod Kept
-pub mod BlankBytes
-pub mod BlankLines
-pub mod BlankFiles
-pub mod BlankRefusals
-pub mod Theorem
-pub mod Uses
-pub mod OneAnswer

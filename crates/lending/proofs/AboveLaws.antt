@@ -5,7 +5,7 @@ use mathlib.Core.List.{List}
 use Prim.Native.Nat.{ℕ, _+_, _<_, _≤_}
 use borrow.Author.Tests.{eq-eqb, ne-eqb}
 use lib.ListN.{length, getD, drop, drop-of-length-le}
-use Rattle.refusals.proofs.ScanLaws.{next}
+use Rattle.bytestrings.proofs.SliceLaws.{next}
 use Rattle.lending.specs.Lending.{above}
 
 module _ (d p : List ℕ) (i : ℕ) where

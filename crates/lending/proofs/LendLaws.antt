@@ -8,13 +8,13 @@ use native.Mathlib.Numerals.{add-one}
 use native.Mathlib.Omega.{arith}
 use lib.ListN.{length, take, drop, getD, set, length-append, length-set, length-drop, drop-of-length-le}
 use lib.Seq.{paste, take-paste, length-paste, take-length, take-all, drop-drop, take-suc-set, length-take-le}
-use Rattle.rulefiles.specs.RuleFiles.{part}
-use Rattle.refusals.proofs.ScanLaws.{next}
+use Rattle.rulefiles.specs.RuleFiles.{bytesBetween}
+use Rattle.bytestrings.proofs.SliceLaws.{next}
 use Rattle.lending.specs.declared.Lent.{Lent}
 use Rattle.lending.specs.declared.Lending.{Lending}
 use Rattle.lending.specs.declared.Lending.the-variants.{Done, Full}
 use Rattle.lending.specs.Lending.{partsFrom, above, Lists, withFile, lendOne, lendAll, Holds, NoRoom, Lends}
-use Rattle.lending.specs.Room.{Within, taken}
+use Rattle.lending.specs.inner.Room.{Within, taken}
 
 -- what the front of the buffers holds
 pub holds-taken : (l : Lists) (lent : Lent) (r e b m : List ℕ) → Holds l lent r e b m → taken lent r e b m ≡ l
@@ -26,10 +26,12 @@ unfolding Holds Within
 holds-within l lent r e b m h = (h .0 .0, (h .1 .0 .0, (h .1 .1 .0 .0, h .1 .1 .1 .0)))
 
 -- bytes copied into the part from a place on, and that part back in its buffer
-pub copied : (at : ℕ) (r f : List ℕ) → at ≤ length r → take at r ++ ((take (length f) f ++ drop (length f) (take (length r - at) (drop at r))) ++ drop (length r - at) (drop at r)) ≡ paste r at f (length f)
+pub copied : (at : ℕ) (r f : List ℕ) → at ≤ length r
+    → take at r ++ ((take (length f) f ++ drop (length f) (take (length r - at) (drop at r))) ++ drop (length r - at) (drop at r)) ≡ paste r at f (length f)
 copied at r f h =
     let rest : length (drop at r) ≤ length r - at = simp length-drop (omega arith) in
-    rw (drop-of-length-le (drop at r) {i = length r - at} rest, take-all (length r - at) (drop at r) rest, append-nil, drop-drop (length f) at r) (sym (append-assoc (take at r) (take (length f) f) (drop (at + length f) r)))
+    rw (drop-of-length-le (drop at r) {i = length r - at} rest, take-all (length r - at) (drop at r) rest, append-nil, drop-drop (length f) at r)
+    (sym (append-assoc (take at r) (take (length f) f) (drop (at + length f) r)))
 
 -- a number stored behind the first n
 stored : (n v : ℕ) (s : List ℕ) (x : ℕ) → n < length s → v ≡ x → (n + 1 ≤ length (set s n v)) × (take (n + 1) (set s n v) ≡ take n s ++ x ∷ [])
@@ -60,12 +62,21 @@ module _ (path : List ℕ) (n : ℕ) (d f : List ℕ) (lent : Lent) (r e b m : L
 
     -- it does, and there is room
     pub lent-more : lent .bytes + length f ≤ length r → lent .files < length e → lent .files < length b → lent .files < length m
-        → Holds (lendOne path n d f (taken lent r e b m)) (record { files = lent .files + 1; bytes = lent .bytes + length f }) (paste r (lent .bytes) f (length f)) (set e (lent .files) (lent .bytes + length f)) (set b (lent .files) (length d)) (set m (lent .files) n)
+        → Holds (lendOne path n d f (taken lent r e b m)) (record { files = lent .files + 1; bytes = lent .bytes + length f }) (paste r (lent .bytes) f (length f))
+        (set e (lent .files) (lent .bytes + length f)) (set b (lent .files) (length d)) (set m (lent .files) n)
     unfolding Holds Within taken lendOne withFile
     lent-more hr he hb hm =
         let whole : length (take (lent .bytes) r ++ f) ≡ lent .bytes + length f = length-append (take (lent .bytes) r) f ∙ ap (λ (x : ℕ). x + length f) (length-take-le (lent .bytes) r (w .0)) in
-        let front : take (lent .bytes + length f) (paste r (lent .bytes) f (length f)) ≡ take (lent .bytes) r ++ f = take-paste r (lent .bytes) f (length f) (w .0) (omega arith) ∙ ap (λ (x : List ℕ). take (lent .bytes) r ++ x) (take-length f) in
-        rw h ((rw (length-paste r (lent .bytes) f (length f) hr (omega arith)) hr, front), (stored (lent .files) (lent .bytes + length f) e (length (take (lent .bytes) r ++ f)) he (sym whole), (stored (lent .files) (length d) b (length d) hb refl, stored (lent .files) n m n hm refl)))
+        let front : take (lent .bytes + length f) (paste r (lent .bytes) f (length f)) ≡ take (lent .bytes) r ++ f = take-paste r (lent .bytes) f (length f) (w .0) (omega arith)
+        ∙ ap (λ (x : List ℕ). take (lent .bytes) r ++ x) (take-length f) in
+        rw h (
+          (rw (length-paste r (lent .bytes) f (length f) hr (omega arith)) hr, front),
+          (
+            stored (lent .files) (lent .bytes + length f) e (length (take (lent .bytes) r ++ f))
+                he (sym whole),
+            (stored (lent .files) (length d) b (length d) hb refl, stored (lent .files) n m n hm refl),
+          ),
+        )
 
 -- What is lent only grows.
 abbrev Grows : Lists → Lists → Type 0
@@ -101,7 +112,7 @@ pending path directories directoryEnds files fileEnds directoryStart fileStart i
 module _ (path directories des files fes : List ℕ) (ds fs i : ℕ) (l : Lists) where
   pub pending-next : i < length des → i < length fes
       → pending path directories des files fes ds fs i l
-      ≡ pending path directories des files fes (getD des i 0) (getD fes i 0) (i + 1) (lendOne path i (part ds (getD des i 0) directories) (part fs (getD fes i 0) files) l)
+      ≡ pending path directories des files fes (getD des i 0) (getD fes i 0) (i + 1) (lendOne path i (bytesBetween ds (getD des i 0) directories) (bytesBetween fs (getD fes i 0) files) l)
   pending-next h k = rw (next des i h, next fes i k)
 
   pub pending-end : length fes ≤ i → pending path directories des files fes ds fs i l ≡ l
@@ -118,7 +129,7 @@ taken-holds l lent r e b m w h = rw h ((w .0, refl), ((w .1 .0, refl), ((w .1 .1
 -- A turn: file i was judged, with directory d and bytes f.
 module _ (path directories des files fes : List ℕ) (ds fs i : ℕ) (all l : Lists) (d f : List ℕ) (o : Lending) (r e b m : List ℕ)
     (eq : all ≡ pending path directories des files fes ds fs i l) (h : i < length des) (k : i < length fes)
-    (ed : d ≡ part ds (getD des i 0) directories) (ef : f ≡ part fs (getD fes i 0) files) (lends : Lends (lendOne path i d f l) o r e b m) where
+    (ed : d ≡ bytesBetween ds (getD des i 0) directories) (ef : f ≡ bytesBetween fs (getD fes i 0) files) (lends : Lends (lendOne path i d f l) o r e b m) where
   turned : all ≡ pending path directories des files fes (getD des i 0) (getD fes i 0) (i + 1) (lendOne path i d f l)
   turned = rw (ed, ef) (eq ∙ pending-next path directories des files fes ds fs i l h k)
 
@@ -129,8 +140,10 @@ module _ (path directories des files fes : List ℕ) (ds fs i : ℕ) (all l : Li
 
   pub turn-done : (lent : Lent) → o ≡ Done lent → (all ≡ pending path directories des files fes (getD des i 0) (getD fes i 0) (i + 1) (taken lent r e b m)) × Within lent r e b m
   turn-done lent q =
-      let holds : Holds (lendOne path i d f l) lent r e b m = rw q at lends in
-      (turned ∙ ap (pending path directories des files fes (getD des i 0) (getD fes i 0) (i + 1)) (sym (holds-taken (lendOne path i d f l) lent r e b m holds)), holds-within (lendOne path i d f l) lent r e b m holds)
+      let holds : Holds (lendOne path i d f l) lent r e b m = rw q at lends in (
+        turned ∙ ap (pending path directories des files fes (getD des i 0) (getD fes i 0) (i + 1)) (sym (holds-taken (lendOne path i d f l) lent r e b m holds)),
+        holds-within (lendOne path i d f l) lent r e b m holds,
+      )
 
 -- what a caller needs to take the lists out of the buffers
 pub done-within : (l : Lists) (o : Lending) (lent : Lent) (r e b m : List ℕ) → o ≡ Done lent → Lends l o r e b m → Within lent r e b m

@@ -1,4 +1,6 @@
 -- Document 01, "lending for each path only the files above it": the lists that are lent for a path, out of rule files that each stand in a directory.
+-- It serves the command-line program and is no call of the base: it writes its lists into four buffers. What these hold behind the lists, and where
+-- there is no room for them, is left free.
 use Prim.Native.Nat.{ℕ, _+_, _≤_, _<_}
 use mathlib.Core.Path.{_≡_}
 use mathlib.Core.Bool.{Bool, true, false, cond, _&&_}
@@ -6,7 +8,7 @@ use mathlib.Core.Logic.{_⊎_}
 use mathlib.Core.List.{List, [], _∷_, _++_}
 use lib.Dec.{eqb}
 use lib.ListN.{length, take}
-use Rattle.rulefiles.specs.RuleFiles.{part}
+use Rattle.rulefiles.specs.RuleFiles.{bytesBetween}
 use Rattle.lending.specs.declared.Lent.{Lent}
 use Rattle.lending.specs.declared.Lending.{Lending}
 use Rattle.lending.specs.declared.Lending.the-variants.{Done, Full}
@@ -14,14 +16,15 @@ use Rattle.lending.specs.declared.Lending.the-variants.{Done, Full}
 -- byte strings that lie end to end, from a start on, by their ends
 abbrev pub partsFrom : ℕ → List ℕ → List ℕ → List (List ℕ)
 partsFrom start bytes [] = []
-partsFrom start bytes (end ∷ ends) = part start end bytes ∷ partsFrom end bytes ends
+partsFrom start bytes (end ∷ ends) = bytesBetween start end bytes ∷ partsFrom end bytes ends
 
 -- all of them
 unfoldable pub parts : List ℕ → List ℕ → List (List ℕ)
 parts bytes ends = partsFrom 0 bytes ends
 
 -- "the files above it": a file's directory, with its last slash, is the front of the path, and more follows, since "A file applies to a path
--- or directory of n bytes only if its base is less than n." At the top the directory is empty. (specs/Meaning.antt says it by `Above`.)
+-- or directory of n bytes only if its base is less than n." At the top the directory is empty. That it ends in a slash is not tested here: without one
+-- the base that is lent is misplaced (refusal 2). (proofs/Meaning.antt has it as a relation, `Above`.)
 unfoldable pub above : List ℕ → List ℕ → Bool
 above [] [] = false
 above [] (y ∷ path) = true

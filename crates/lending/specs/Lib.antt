@@ -1,8 +1,4 @@
--- What a reader must believe:
+-- What a reader must believe, in the paper's order:
 pub mod Lending
--- Theorems about it:
-pub mod Meaning
-pub mod Laid
-pub mod LentFiles
--- Inner definitions, which only the contracts of private functions cite:
-pub mod Room
+-- Inner definitions, none of which a public contract cites:
+pub mod inner

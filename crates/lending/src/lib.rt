@@ -1,7 +1,8 @@
-// Which rule files are lent for a path: those that stand above it, end to end and in their order.
+// Which of many rule files are lent for a path: those that stand above it, end to end and in their order. It serves the command-line program and is no
+// part of the base. For a user: docs/RULES.md, "Rule files and lines".
 ghost use mathlib.Core.Path.{_≡_};
 ghost use Rattle.lending.specs.Lending.{parts, above, lendOne, lists, Lends};
-ghost use Rattle.lending.specs.Room.{Within, taken};
+ghost use Rattle.lending.specs.inner.Room.{Within, taken};
 use rulefiles::file_part;
 
 // How many files are lent, and how many bytes they have together.

@@ -9,9 +9,9 @@ use mathlib.Core.Option.{Option, none, some}
 use lib.ListN.{length, getD}
 use Rattle.rulefiles.specs.declared.Place.{Place}
 use Rattle.rulefiles.specs.RuleFiles.{orderedLines}
-use Rattle.rulefiles.specs.Last.{Decision}
+use Rattle.rulefiles.specs.Decisions.{Decision}
 use Rattle.refusals.specs.Refusals.{Lowest, Accepted}
-use Rattle.refusals.proofs.Order.{before-or-not}
+use Rattle.bytestrings.proofs.OrderLaws.{before-or-not}
 use Rattle.refusals.proofs.LowestLaws.{none-lowest}
 use Rattle.entries.specs.Entries.{Entry}
 use Rattle.ignorelines.specs.IgnoreLines.{Verdict, ignored, re-included}
@@ -19,11 +19,11 @@ use Rattle.attributelines.specs.declared.State.{State}
 use Rattle.attributelines.specs.declared.State.the-variants.{Set, Unset, Value, Unspecified}
 use Rattle.questions.specs.Complete.{Complete, refusal, verdictNumber, stateNumber, stateValues, stated, completeIgnore, completeAttribute}
 use Rattle.questions.specs.Verdicts.{verdict, attributeState, parents, ignores, judged, topDown}
-use Rattle.questions.specs.Answers.{pathEntry, folds, spoken, ignoreAnswer, attributeAnswer}
+use Rattle.questions.specs.Answers.{pathEntry, folds, stateAnswer, ignoreAnswer, attributeAnswer}
 use Rattle.questions.specs.declared.IgnoreAnswer.{IgnoreAnswer}
-use Rattle.questions.specs.declared.IgnoreAnswer.the-variants.{Nothing, Ignored, Reincluded, Refused}
+use Rattle.questions.specs.declared.IgnoreAnswer.the-variants.{Undecided, Ignored, Reincluded, Refused}
 use Rattle.questions.specs.declared.AttributeAnswer.{AttributeAnswer}
-use Rattle.questions.specs.declared.AttributeAnswer.the-variants.{Nothing as NoLineSpoke, Said, Refused as AttributeRefused}
+use Rattle.questions.specs.declared.AttributeAnswer.the-variants.{Undecided as AttributeUndecided, Decided, Refused as AttributeRefused}
 
 pub refusal-one : (n k : ℕ) → refusal n ≡ refusal k → n ≡ k
 refusal-one n k e = let z : 16 + n ≡ 16 + k = ap (λ (c : Complete). c .number) e in omega (arith, z)
@@ -31,7 +31,7 @@ refusal-one n k e = let z : 16 + n ≡ 16 + k = ap (λ (c : Complete). c .number
 pub small-not-refused : (a : Complete) (n : ℕ) → a .number ≤ 4 → a ≡ refusal n → ⊥
 small-not-refused a n small e = let z : a .number ≡ 16 + n = ap (λ (c : Complete). c .number) e in omega (arith, z, small)
 
--- The numbers of what is said.
+-- The numbers of decided answers.
 
 pub state-small : (s : State) → stateNumber s ≤ 4
 unfolding stateNumber
@@ -56,9 +56,9 @@ top-down-small v (p ∷ ps) e = go (ignores (v p)) (judged-small (length (p .byt
     go true x y = x
     go false x y = y
 
-pub spoken-small : (o : Option (Decision State)) → spoken o .number ≤ 4
-spoken-small none = omega arith
-spoken-small (some d) = state-small (d .what)
+pub state-answer-small : (o : Option (Decision State)) → stateAnswer o .number ≤ 4
+state-answer-small none = omega arith
+state-answer-small (some d) = state-small (d .what)
 
 pub ignore-small : (path rules ends bases : List ℕ) (flags : ℕ) → ignoreAnswer path rules ends bases flags .number ≤ 4
 unfolding ignoreAnswer
@@ -66,7 +66,7 @@ ignore-small path rules ends bases flags = top-down-small (verdict (folds flags)
 
 pub attribute-small : (path rules ends bases name : List ℕ) (flags : ℕ) → attributeAnswer path rules ends bases name flags .number ≤ 4
 unfolding attributeAnswer
-attribute-small path rules ends bases name flags = spoken-small (attributeState (folds flags) name (orderedLines rules ends bases) (pathEntry path flags))
+attribute-small path rules ends bases name flags = state-answer-small (attributeState (folds flags) name (orderedLines rules ends bases) (pathEntry path flags))
 
 -- What an answer that meets a question's contract is: refused alike, and alike where the question is accepted.
 
@@ -117,7 +117,7 @@ ignore-none (suc (suc (suc m))) h = refl
 
 pub ignore-count : (a : IgnoreAnswer) → length (completeIgnore a .values) ≡ ignoreCount (completeIgnore a .number)
 unfolding completeIgnore
-ignore-count Nothing = refl
+ignore-count Undecided = refl
 ignore-count (Ignored d) = refl
 ignore-count (Reincluded d) = refl
 ignore-count (Refused n) = ignore-none (16 + n) (omega arith)
@@ -147,8 +147,8 @@ stated-count Unspecified p = refl
 
 pub attribute-count : (a : AttributeAnswer) → length (completeAttribute a .values) ≡ attributeCount (completeAttribute a .number)
 unfolding completeAttribute
-attribute-count NoLineSpoke = refl
-attribute-count (Said s) = stated-count (s .state) (s .place)
+attribute-count AttributeUndecided = refl
+attribute-count (Decided s) = stated-count (s .state) (s .place)
 attribute-count (AttributeRefused n) = attribute-none (16 + n) (omega arith)
 
 -- From the number and the values back to the answer.
@@ -157,7 +157,7 @@ abbrev placeAt : ℕ → Complete → Place
 placeAt i c = record { file = getD (c .values) i 0; line = getD (c .values) (suc i) 0 }
 
 abbrev ignoreFrom : ℕ → Complete → IgnoreAnswer
-ignoreFrom zero c = Nothing
+ignoreFrom zero c = Undecided
 ignoreFrom (suc zero) c = Ignored (record { length = getD (c .values) 0 0; place = placeAt 1 c })
 ignoreFrom (suc (suc zero)) c = Reincluded (record { length = getD (c .values) 0 0; place = placeAt 1 c })
 ignoreFrom (suc (suc (suc n))) c = Refused (c .number - 16)
@@ -170,7 +170,7 @@ ignore-far (suc (suc (suc m))) c h = refl
 
 ignore-back : (a : IgnoreAnswer) → ignoreFrom (completeIgnore a .number) (completeIgnore a) ≡ a
 unfolding completeIgnore
-ignore-back Nothing = refl
+ignore-back Undecided = refl
 ignore-back (Ignored d) = refl
 ignore-back (Reincluded d) = refl
 ignore-back (Refused n) = ignore-far (16 + n) (refusal n) (omega arith) ∙ ap Refused (omega arith)
@@ -179,11 +179,11 @@ pub ignore-once : (a b : IgnoreAnswer) → completeIgnore a ≡ completeIgnore b
 ignore-once a b e = sym (ignore-back a) ∙ ap (λ (c : Complete). ignoreFrom (c .number) c) e ∙ ignore-back b
 
 abbrev attributeFrom : ℕ → Complete → AttributeAnswer
-attributeFrom zero c = NoLineSpoke
-attributeFrom (suc zero) c = Said (record { state = Set; place = placeAt 0 c })
-attributeFrom (suc (suc zero)) c = Said (record { state = Unset; place = placeAt 0 c })
-attributeFrom (suc (suc (suc zero))) c = Said (record { state = Value (record { start = getD (c .values) 0 0; length = getD (c .values) 1 0 }); place = placeAt 2 c })
-attributeFrom (suc (suc (suc (suc zero)))) c = Said (record { state = Unspecified; place = placeAt 0 c })
+attributeFrom zero c = AttributeUndecided
+attributeFrom (suc zero) c = Decided (record { state = Set; place = placeAt 0 c })
+attributeFrom (suc (suc zero)) c = Decided (record { state = Unset; place = placeAt 0 c })
+attributeFrom (suc (suc (suc zero))) c = Decided (record { state = Value (record { start = getD (c .values) 0 0; length = getD (c .values) 1 0 }); place = placeAt 2 c })
+attributeFrom (suc (suc (suc (suc zero)))) c = Decided (record { state = Unspecified; place = placeAt 0 c })
 attributeFrom (suc (suc (suc (suc (suc n))))) c = AttributeRefused (c .number - 16)
 
 attribute-far : (m : ℕ) (c : Complete) → 4 < m → attributeFrom m c ≡ AttributeRefused (c .number - 16)
@@ -194,7 +194,7 @@ attribute-far (suc (suc (suc zero))) c h = absurd (omega arith)
 attribute-far (suc (suc (suc (suc zero)))) c h = absurd (omega arith)
 attribute-far (suc (suc (suc (suc (suc m))))) c h = refl
 
-stated-back : (s : State) (p : Place) → attributeFrom (stateNumber s) (stated s p) ≡ Said (record { state = s; place = p })
+stated-back : (s : State) (p : Place) → attributeFrom (stateNumber s) (stated s p) ≡ Decided (record { state = s; place = p })
 unfolding stateNumber stateValues
 stated-back Set p = refl
 stated-back Unset p = refl
@@ -203,8 +203,8 @@ stated-back Unspecified p = refl
 
 attribute-back : (a : AttributeAnswer) → attributeFrom (completeAttribute a .number) (completeAttribute a) ≡ a
 unfolding completeAttribute
-attribute-back NoLineSpoke = refl
-attribute-back (Said s) = stated-back (s .state) (s .place)
+attribute-back AttributeUndecided = refl
+attribute-back (Decided s) = stated-back (s .state) (s .place)
 attribute-back (AttributeRefused n) = attribute-far (16 + n) (refusal n) (omega arith) ∙ ap AttributeRefused (omega arith)
 
 pub attribute-once : (a b : AttributeAnswer) → completeAttribute a ≡ completeAttribute b → a ≡ b

@@ -9,10 +9,10 @@ use mathlib.Core.Option.{Option}
 use lib.ListN.{length, take, drop, length-drop, drop-of-length-le}
 use lib.Seq.{drop-drop, length-take-le, take-all}
 use Rattle.rulefiles.specs.RuleFiles.{split, lineLength, hasBom, bomLength}
-use Rattle.rulefiles.specs.Last.{Decision, joined}
+use Rattle.rulefiles.specs.Decisions.{Decision, override}
 use Rattle.rulefiles.proofs.LineLaws.{split-none, split-first, line-fits}
-use Rattle.rulefiles.proofs.LastLaws.{joined-assoc}
-use Rattle.questions.specs.Scan.{saidAt, lastIn, contentStart, lastInFile}
+use Rattle.rulefiles.proofs.DecisionLaws.{override-assoc}
+use Rattle.questions.specs.inner.Scan.{decisionAt, lastIn, contentStart, lastInFile}
 
 -- the rules up to a place past them
 pub upto-all : (end : ℕ) (s : List ℕ) → length s < end → s ≡ take end s
@@ -34,10 +34,11 @@ bom-small s = go (hasBom s)
     go true = omega arith
     go false = omega arith
 
-module _ {A : Type 0} (word : ℕ → List ℕ → Option A) (file : ℕ) where
+module _ {A : Type 0} (effect : ℕ → List ℕ → Option A) (file : ℕ) where
   -- the line at place i, and the lines after it
   line-first : (upto : List ℕ) (line i end : ℕ) → i < length upto → end ≡ i + lineLength (drop i upto)
-      → lastIn word file line i (split (drop i upto)) ≡ joined (saidAt file line (word i (take (end - i) (drop i upto)))) (lastIn word file (line + 1) (end + 1) (split (drop (end + 1) upto)))
+      → lastIn effect file line i (split (drop i upto))
+      ≡ override (decisionAt file line (effect i (take (end - i) (drop i upto)))) (lastIn effect file (line + 1) (end + 1) (split (drop (end + 1) upto)))
   line-first upto line i end h e =
       let d : List ℕ = drop i upto in
       let k : ℕ = lineLength d in
@@ -46,23 +47,23 @@ module _ {A : Type 0} (word : ℕ → List ℕ → Option A) (file : ℕ) where
       let l : length (take k d) ≡ k = length-take-le k d (line-fits d) in
       let q : i + length (take k d) + 1 ≡ end + 1 = omega arith in
       let r : i + (k + 1) ≡ end + 1 = omega arith in
-      ap (lastIn word file line i) (split-first d p)
+      ap (lastIn effect file line i) (split-first d p)
       ∙ rw (m, q, add-one line, drop-drop (k + 1) i upto, r)
 
-  -- one turn: what was said before, with the line's word, and then the lines after it
+  -- one turn: the decision before, overridden by the line's, and then by the lines after it
   pub line-turn : (upto : List ℕ) (line i end : ℕ) (before after : Option (Decision A)) → i < length upto → end ≡ i + lineLength (drop i upto)
-      → after ≡ joined before (saidAt file line (word i (take (end - i) (drop i upto))))
-      → joined before (lastIn word file line i (split (drop i upto))) ≡ joined after (lastIn word file (line + 1) (end + 1) (split (drop (end + 1) upto)))
+      → after ≡ override before (decisionAt file line (effect i (take (end - i) (drop i upto))))
+      → override before (lastIn effect file line i (split (drop i upto))) ≡ override after (lastIn effect file (line + 1) (end + 1) (split (drop (end + 1) upto)))
   line-turn upto line i end before after h e q =
-      ap (joined before) (line-first upto line i end h e)
-      ∙ sym (joined-assoc before (saidAt file line (word i (take (end - i) (drop i upto)))) (lastIn word file (line + 1) (end + 1) (split (drop (end + 1) upto))))
-      ∙ ap (λ (a : Option (Decision A)). joined a (lastIn word file (line + 1) (end + 1) (split (drop (end + 1) upto)))) (sym q)
+      ap (override before) (line-first upto line i end h e)
+      ∙ sym (override-assoc before (decisionAt file line (effect i (take (end - i) (drop i upto)))) (lastIn effect file (line + 1) (end + 1) (split (drop (end + 1) upto))))
+      ∙ ap (λ (a : Option (Decision A)). override a (lastIn effect file (line + 1) (end + 1) (split (drop (end + 1) upto)))) (sym q)
 
-  pub lines-end : (upto : List ℕ) (line i : ℕ) (before : Option (Decision A)) → length upto ≤ i → joined before (lastIn word file line i (split (drop i upto))) ≡ before
-  lines-end upto line i before h = ap (λ (ls : List (List ℕ)). joined before (lastIn word file line i ls)) (split-none (drop i upto) (simp length-drop (omega arith)))
+  pub lines-end : (upto : List ℕ) (line i : ℕ) (before : Option (Decision A)) → length upto ≤ i → override before (lastIn effect file line i (split (drop i upto))) ≡ before
+  lines-end upto line i before h = ap (λ (ls : List (List ℕ)). override before (lastIn effect file line i ls)) (split-none (drop i upto) (simp length-drop (omega arith)))
 
   -- the lines of a file begin
   pub file-begin : (upto : List ℕ) (start i : ℕ) (before : Option (Decision A)) → i ≡ contentStart upto start
-      → joined before (lastInFile word file upto start) ≡ joined before (lastIn word file 1 i (split (drop i upto)))
+      → override before (lastInFile effect file upto start) ≡ override before (lastIn effect file 1 i (split (drop i upto)))
   unfolding lastInFile
   file-begin upto start i before e = rw e

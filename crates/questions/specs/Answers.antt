@@ -6,13 +6,13 @@ use mathlib.Core.Bool.{Bool}
 use mathlib.Core.List.{List}
 use mathlib.Core.Option.{Option, none, some}
 use Rattle.rulefiles.specs.RuleFiles.{orderedLines}
-use Rattle.rulefiles.specs.Last.{Decision}
+use Rattle.rulefiles.specs.Decisions.{Decision}
 use Rattle.refusals.specs.Refusals.{Lowest, Accepted}
-use Rattle.refusals.specs.Questions.{IgnoreRefuses, AttributeRefuses}
+use Rattle.refusals.specs.Conditions.{IgnoreRefuses, AttributeRefuses}
 use Rattle.refusals.specs.Flags.{flagOne, flagTwo}
 use Rattle.entries.specs.Entries.{Entry}
 use Rattle.attributelines.specs.declared.State.{State}
-use Rattle.questions.specs.Complete.{Complete, nothingSaid, refusal, stated}
+use Rattle.questions.specs.Complete.{Complete, undecided, refusal, stated}
 use Rattle.questions.specs.Verdicts.{verdict, attributeState, parents, topDown}
 
 -- "for the questions 1 = directory": the path as an entry
@@ -29,14 +29,14 @@ ignoreAnswer path rules ends bases flags =
     topDown (verdict (folds flags) (orderedLines rules ends bases)) (parents path) (pathEntry path flags)
 
 -- "The answer holds the state, .. with the file and line, or says that no line spoke."
-abbrev pub spoken : Option (Decision State) → Complete
-spoken none = nothingSaid
-spoken (some d) = stated (d .what) (d .place)
+abbrev pub stateAnswer : Option (Decision State) → Complete
+stateAnswer none = undecided
+stateAnswer (some d) = stated (d .what) (d .place)
 
--- the answer of an accepted attribute question
+-- the answer of an accepted attribute question, "with no rule about parents": of the path alone
 unfoldable pub attributeAnswer : List ℕ → List ℕ → List ℕ → List ℕ → List ℕ → ℕ → Complete
 attributeAnswer path rules ends bases name flags =
-    spoken (attributeState (folds flags) name (orderedLines rules ends bases) (pathEntry path flags))
+    stateAnswer (attributeState (folds flags) name (orderedLines rules ends bases) (pathEntry path flags))
 
 -- Demand 1: "Each refusal in the table is given exactly when its condition holds, lowest number first, and returns that number only."
 -- Demand 2: an accepted question has its answer by the rules

@@ -1,4 +1,4 @@
--- The complete answer of a question: document 01's number and values for each case of the two answer types.
+-- The *complete answer* of a question, 01's term: its number and values for each case of the two answer types.
 use Prim.Native.Nat.{ℕ, _+_}
 use mathlib.Core.List.{List, [], _∷_, _++_}
 use Rattle.rulefiles.specs.declared.Place.{Place}
@@ -6,19 +6,19 @@ use Rattle.ignorelines.specs.IgnoreLines.{Verdict, ignored, re-included}
 use Rattle.attributelines.specs.declared.State.{State}
 use Rattle.attributelines.specs.declared.State.the-variants.{Set, Unset, Value, Unspecified}
 use Rattle.questions.specs.declared.IgnoreAnswer.{IgnoreAnswer}
-use Rattle.questions.specs.declared.IgnoreAnswer.the-variants.{Nothing, Ignored, Reincluded, Refused}
+use Rattle.questions.specs.declared.IgnoreAnswer.the-variants.{Undecided, Ignored, Reincluded, Refused}
 use Rattle.questions.specs.declared.AttributeAnswer.{AttributeAnswer}
-use Rattle.questions.specs.declared.AttributeAnswer.the-variants.{Nothing as NoLineSpoke, Said, Refused as AttributeRefused}
+use Rattle.questions.specs.declared.AttributeAnswer.the-variants.{Undecided as AttributeUndecided, Decided, Refused as AttributeRefused}
 
 -- "The complete answer is all that the call returns": its number, as "C results" give it, and its values, "for ignore the verdict, entry length,
--- file and line; for an attribute the state, a value's start and length, file and line"
+-- file and line; for an attribute the state, a value's start and length, file and line". The values stand in that order, those that there are
 pub record Complete : Type 0 where
   pub number : ℕ
   pub values : List ℕ
 
--- "0 nothing said"; "nothing said gives no numbers", "or says that no line spoke"
-abbrev pub nothingSaid : Complete
-nothingSaid = record { number = 0; values = [] }
+-- no line decided: 01's "0 nothing said"; "nothing said gives no numbers", "or says that no line spoke"
+abbrev pub undecided : Complete
+undecided = record { number = 0; values = [] }
 
 -- "a refusal is 16 plus its number"; "A refusal carries its number and nothing else."
 abbrev pub refusal : ℕ → Complete
@@ -57,13 +57,13 @@ stated s p = record { number = stateNumber s; values = stateValues s ++ placeVal
 
 -- what each answer of the ignore question is
 unfoldable pub completeIgnore : IgnoreAnswer → Complete
-completeIgnore Nothing = nothingSaid
+completeIgnore Undecided = undecided
 completeIgnore (Ignored d) = decided ignored (d .length) (d .place)
 completeIgnore (Reincluded d) = decided re-included (d .length) (d .place)
 completeIgnore (Refused n) = refusal n
 
 -- what each answer of the attribute question is
 unfoldable pub completeAttribute : AttributeAnswer → Complete
-completeAttribute NoLineSpoke = nothingSaid
-completeAttribute (Said s) = stated (s .state) (s .place)
+completeAttribute AttributeUndecided = undecided
+completeAttribute (Decided s) = stated (s .state) (s .place)
 completeAttribute (AttributeRefused n) = refusal n

@@ -1,6 +1,6 @@
--- What a reader must believe, in document 01's order:
+-- What a reader must believe, in the paper's order:
 pub mod Complete
 pub mod Verdicts
 pub mod Answers
--- Inner definitions, which only the contracts of private functions cite:
-pub mod Scan
+-- Inner definitions, none of which a public contract cites:
+pub mod inner

@@ -1,23 +1,23 @@
 // The attribute question.
 ghost use mathlib.Core.Path.{_≡_};
 ghost use Rattle.questions.specs.Complete.{stateNumber, completeAttribute};
-ghost use Rattle.questions.specs.Answers.{spoken, AttributeAnswered};
-ghost use Rattle.questions.specs.Scan.{heardOf};
+ghost use Rattle.questions.specs.Answers.{stateAnswer, AttributeAnswered};
+ghost use Rattle.questions.specs.inner.Scan.{stateDecisionOf};
 use crate::AttributeAnswer;
-use crate::state::Heard;
-use crate::state::path_heard;
+use crate::state::AttributeState;
+use crate::state::attribute_state;
 use attributelines::State;
 use refusals::flags::flag_one;
 use refusals::flags::flag_two;
 use refusals::lowest::attribute_refusal;
 
-// What was heard, as an answer.
-fn spoken(heard: Heard) -> AttributeAnswer
-    ensures { λ r. ⌜ completeAttribute r ≡ spoken (heardOf heard) ⌝ }
+// The state, as an answer.
+fn state_answer(last: AttributeState) -> AttributeAnswer
+    ensures { λ r. ⌜ completeAttribute r ≡ stateAnswer (stateDecisionOf last) ⌝ }
 {
-    match heard {
-        Heard::Nothing => AttributeAnswer::Nothing,
-        Heard::Said(s) => AttributeAnswer::Said(s),
+    match last {
+        AttributeState::Undecided => AttributeAnswer::Undecided,
+        AttributeState::Decided(s) => AttributeAnswer::Decided(s),
     }
 }
 
@@ -36,7 +36,7 @@ pub fn attribute(
     if refusal != 0 {
         return AttributeAnswer::Refused(refusal);
     }
-    spoken(path_heard(
+    state_answer(attribute_state(
         rules,
         ends,
         bases,
@@ -64,8 +64,8 @@ pub fn attribute_code(answer: AttributeAnswer) -> u32
     ensures { λ r. ⌜ r ≡ completeAttribute answer .number ⌝ }
 {
     match answer {
-        AttributeAnswer::Nothing => 0,
-        AttributeAnswer::Said(s) => {
+        AttributeAnswer::Undecided => 0,
+        AttributeAnswer::Decided(s) => {
             let state = s.state;
             state_code(state)
         }

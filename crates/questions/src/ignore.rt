@@ -4,63 +4,72 @@ ghost use Rattle.rulefiles.specs.RuleFiles.{orderedLines};
 ghost use Rattle.questions.specs.Verdicts.{verdict, parents, judged, topDown};
 ghost use Rattle.questions.specs.Complete.{completeIgnore};
 ghost use Rattle.questions.specs.Answers.{IgnoreAnswered};
-ghost use Rattle.questions.specs.Scan.{decisionOf, ignoredAt, firstIgnored, aboveOf};
-use crate::Decided;
+ghost use Rattle.questions.specs.inner.Scan.{verdictDecisionOf, ignoredAt, firstIgnored, ignoredParentOf};
+use crate::DecidedEntry;
 use crate::IgnoreAnswer;
-use crate::verdict::Said;
-use crate::verdict::entry_said;
+use crate::verdict::EntryVerdict;
+use crate::verdict::entry_verdict;
 use entries::component_start;
 use refusals::flags::flag_one;
 use refusals::flags::flag_two;
 use refusals::lowest::ignore_refusal;
 
-// Whether an entry lies under an ignored parent, and what that answers.
-pub enum Above {
-    Clear,
-    Under(Decided),
+// The first of an entry's parents, from the top down, that is ignored, if any is.
+pub enum IgnoredParent {
+    None,
+    First(DecidedEntry),
 }
 
 // What an entry of this length answers for those below it.
-fn ignored_at(said: Said, length: usize) -> Above
-    ensures { λ r. ⌜ aboveOf r ≡ ignoredAt length (decisionOf said) ⌝ }
+fn ignored_at(verdict: EntryVerdict, length: usize) -> IgnoredParent
+    ensures { λ r. ⌜ ignoredParentOf r ≡ ignoredAt length (verdictDecisionOf verdict) ⌝ }
 {
-    match said {
-        Said::Nothing => Above::Clear,
-        Said::Ignores(place) => Above::Under(Decided {
+    match verdict {
+        EntryVerdict::Undecided => IgnoredParent::None,
+        EntryVerdict::Ignored(place) => IgnoredParent::First(DecidedEntry {
             length: length,
             place: place,
         }),
-        Said::Reincludes(_) => Above::Clear,
+        EntryVerdict::Reincluded(_) => IgnoredParent::None,
     }
 }
 
 // The first ignored parent of an entry. The parent's own parents are settled first.
-fn ignored_above(rules: &[u8], ends: &[usize], bases: &[usize], entry: &[u8], fold: bool) -> Above
-    ensures { λ r. ⌜ aboveOf r ≡ firstIgnored (verdict fold (orderedLines (now (rules .entry)) (now (ends .entry)) (now (bases .entry)))) (parents (now (entry .entry))) ⌝ }
+fn first_ignored_parent(
+    rules: &[u8],
+    ends: &[usize],
+    bases: &[usize],
+    entry: &[u8],
+    fold: bool,
+) -> IgnoredParent
+    ensures { λ r. ⌜ ignoredParentOf r ≡ firstIgnored (verdict fold (orderedLines (now (rules .entry)) (now (ends .entry)) (now (bases .entry)))) (parents (now (entry .entry))) ⌝ }
 {
     let at = component_start(entry);
     if at == 0 {
-        return Above::Clear;
+        return IgnoredParent::None;
     }
     let n = at - 1;
-    let above = ignored_above(rules, ends, bases, &entry[..n], fold);
-    match above {
-        Above::Under(d) => Above::Under(d),
-        Above::Clear => ignored_at(entry_said(rules, ends, bases, &entry[..n], true, fold), n),
+    let parent = first_ignored_parent(rules, ends, bases, &entry[..n], fold);
+    match parent {
+        IgnoredParent::First(d) => IgnoredParent::First(d),
+        IgnoredParent::None => ignored_at(
+            entry_verdict(rules, ends, bases, &entry[..n], true, fold),
+            n,
+        ),
     }
 }
 
 // What an entry of this length answers by its own verdict.
-fn judge(said: Said, length: usize) -> IgnoreAnswer
-    ensures { λ r. ⌜ completeIgnore r ≡ judged length (decisionOf said) ⌝ }
+fn judge(verdict: EntryVerdict, length: usize) -> IgnoreAnswer
+    ensures { λ r. ⌜ completeIgnore r ≡ judged length (verdictDecisionOf verdict) ⌝ }
 {
-    match said {
-        Said::Nothing => IgnoreAnswer::Nothing,
-        Said::Ignores(place) => IgnoreAnswer::Ignored(Decided {
+    match verdict {
+        EntryVerdict::Undecided => IgnoreAnswer::Undecided,
+        EntryVerdict::Ignored(place) => IgnoreAnswer::Ignored(DecidedEntry {
             length: length,
             place: place,
         }),
-        Said::Reincludes(place) => IgnoreAnswer::Reincluded(Decided {
+        EntryVerdict::Reincluded(place) => IgnoreAnswer::Reincluded(DecidedEntry {
             length: length,
             place: place,
         }),
@@ -78,11 +87,11 @@ fn judge_path(
 ) -> IgnoreAnswer
     ensures { λ r. ⌜ completeIgnore r ≡ topDown (verdict fold (orderedLines (now (rules .entry)) (now (ends .entry)) (now (bases .entry)))) (parents (now (path .entry))) (record { bytes = now (path .entry); directory = directory }) ⌝ }
 {
-    let above = ignored_above(rules, ends, bases, path, fold);
-    match above {
-        Above::Under(d) => IgnoreAnswer::Ignored(d),
-        Above::Clear => judge(
-            entry_said(rules, ends, bases, path, directory, fold),
+    let parent = first_ignored_parent(rules, ends, bases, path, fold);
+    match parent {
+        IgnoredParent::First(d) => IgnoreAnswer::Ignored(d),
+        IgnoredParent::None => judge(
+            entry_verdict(rules, ends, bases, path, directory, fold),
             path.len(),
         ),
     }
@@ -110,7 +119,7 @@ pub fn ignore_code(answer: IgnoreAnswer) -> u32
     ensures { λ r. ⌜ r ≡ completeIgnore answer .number ⌝ }
 {
     match answer {
-        IgnoreAnswer::Nothing => 0,
+        IgnoreAnswer::Undecided => 0,
         IgnoreAnswer::Ignored(_) => 1,
         IgnoreAnswer::Reincluded(_) => 2,
         IgnoreAnswer::Refused(n) => 16 + (n as u32),

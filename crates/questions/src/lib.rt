@@ -1,4 +1,5 @@
-// Both questions over lent rule files.
+// Both questions over lent rule files: refusals first, then the last line that has an effect, and of the ignore question the path's parents from the
+// top down. For a user: docs/RULES.md, "Which line decides" and "Answers".
 pub mod attribute;
 pub mod ignore;
 mod lines;
@@ -9,28 +10,28 @@ use attributelines::State;
 use rulefiles::Place;
 
 // The entry that decided, by its length, and the line that decided it.
-pub struct Decided {
+pub struct DecidedEntry {
     pub length: usize,
     pub place: Place,
 }
 
-// What the ignore question answers; a refusal carries its number and nothing else.
+// What the ignore question answers: undecided where no line decided; a refusal carries its number and nothing else.
 pub enum IgnoreAnswer {
-    Nothing,
-    Ignored(Decided),
-    Reincluded(Decided),
+    Undecided,
+    Ignored(DecidedEntry),
+    Reincluded(DecidedEntry),
     Refused(u8),
 }
 
 // An attribute's state beside the line that decided it.
-pub struct Spoken {
+pub struct DecidedState {
     pub state: State,
     pub place: Place,
 }
 
 // What the attribute question answers.
 pub enum AttributeAnswer {
-    Nothing,
-    Said(Spoken),
+    Undecided,
+    Decided(DecidedState),
     Refused(u8),
 }

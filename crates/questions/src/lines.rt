@@ -1,7 +1,7 @@
 // Where the lines of a lent file stand.
 ghost use mathlib.Core.Path.{_≡_};
 ghost use lib.ListN.{take};
-ghost use Rattle.questions.specs.Scan.{contentStart};
+ghost use Rattle.questions.specs.inner.Scan.{contentStart};
 use rulefiles::bom_length;
 
 // The rules up to the end of a file.

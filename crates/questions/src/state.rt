@@ -1,32 +1,33 @@
 // An attribute's state: the last applicable line that matches the path and names the attribute.
 ghost use mathlib.Core.Path.{_≡_};
 ghost use Rattle.rulefiles.specs.RuleFiles.{orderedLines};
-ghost use Rattle.rulefiles.specs.Last.{joined};
+ghost use Rattle.rulefiles.specs.Decisions.{override};
 ghost use Rattle.attributelines.specs.AttributeLines.{stateOf};
+ghost use Rattle.entries.specs.Entries.{against};
 ghost use Rattle.questions.specs.Verdicts.{attributeState};
-ghost use Rattle.questions.specs.Scan.{heardOf, saidAt, attributeAt, lastInFile};
-use crate::Spoken;
+ghost use Rattle.questions.specs.inner.Scan.{stateDecisionOf, decisionAt, attributeAt, lastInFile};
+use crate::DecidedState;
 use crate::lines::content_start;
 use crate::lines::rules_upto;
-use attributelines::Word;
-use attributelines::line_word;
+use attributelines::Effect;
+use attributelines::line_effect;
 use entries::component_start;
 use rulefiles::Place;
 use rulefiles::line_end;
 
-// What the lines read so far say of the attribute.
-pub enum Heard {
-    Nothing,
-    Said(Spoken),
+// The state that the lines read so far give the attribute.
+pub enum AttributeState {
+    Undecided,
+    Decided(DecidedState),
 }
 
-// What is heard after one line more.
-fn after_line(before: Heard, word: Word, file: usize, line: usize) -> Heard
-    ensures { λ r. ⌜ heardOf r ≡ joined (heardOf before) (saidAt file line (stateOf word)) ⌝ }
+// The state after one line more.
+fn after_line(before: AttributeState, effect: Effect, file: usize, line: usize) -> AttributeState
+    ensures { λ r. ⌜ stateDecisionOf r ≡ override (stateDecisionOf before) (decisionAt file line (stateOf effect)) ⌝ }
 {
-    match word {
-        Word::Silent => before,
-        Word::Says(state) => Heard::Said(Spoken {
+    match effect {
+        Effect::None => before,
+        Effect::Assigns(state) => AttributeState::Decided(DecidedState {
             state: state,
             place: Place {
                 file: file,
@@ -36,7 +37,7 @@ fn after_line(before: Heard, word: Word, file: usize, line: usize) -> Heard
     }
 }
 
-// What is heard after one file more, which starts at `start` of the rules up to its end.
+// The state after one file more, which starts at `start` of the rules up to its end.
 fn after_file(
     upto: &[u8],
     start: usize,
@@ -46,25 +47,25 @@ fn after_file(
     component: &[u8],
     directory: bool,
     fold: bool,
-    before: Heard,
-) -> Heard
-    ensures { λ r. ⌜ heardOf r ≡ joined (heardOf before) (lastInFile (attributeAt fold directory (now (attribute .entry)) (now (rest .entry)) (now (component .entry))) file (now (upto .entry)) start) ⌝ }
+    before: AttributeState,
+) -> AttributeState
+    ensures { λ r. ⌜ stateDecisionOf r ≡ override (stateDecisionOf before) (lastInFile (attributeAt (against (now (rest .entry)) (now (component .entry)) directory fold) (now (attribute .entry))) file (now (upto .entry)) start) ⌝ }
 {
-    let mut heard = before;
+    let mut last = before;
     let mut i = content_start(upto, start);
     let mut line = 1;
     while i < upto.len() {
         let end = line_end(upto, i);
-        let word = line_word(&upto[..end], i, attribute, rest, component, directory, fold);
-        heard = after_line(heard, word, file, line);
+        let effect = line_effect(&upto[..end], i, attribute, rest, component, directory, fold);
+        last = after_line(last, effect, file, line);
         i = end + 1;
         line += 1;
     }
-    heard
+    last
 }
 
 // The attribute's state over all files.
-pub fn path_heard(
+pub fn attribute_state(
     rules: &[u8],
     ends: &[usize],
     bases: &[usize],
@@ -72,21 +73,21 @@ pub fn path_heard(
     attribute: &[u8],
     directory: bool,
     fold: bool,
-) -> Heard
-    ensures { λ r. ⌜ heardOf r ≡ attributeState fold (now (attribute .entry)) (orderedLines (now (rules .entry)) (now (ends .entry)) (now (bases .entry))) (record { bytes = now (path .entry); directory = directory }) ⌝ }
+) -> AttributeState
+    ensures { λ r. ⌜ stateDecisionOf r ≡ attributeState fold (now (attribute .entry)) (orderedLines (now (rules .entry)) (now (ends .entry)) (now (bases .entry))) (record { bytes = now (path .entry); directory = directory }) ⌝ }
 {
     let at = component_start(path);
-    let mut heard = Heard::Nothing;
+    let mut last = AttributeState::Undecided;
     let mut start = 0;
     let mut file = 0;
     while file < ends.len() {
         if bases.len() <= file {
-            return heard;
+            return last;
         }
         let end = ends[file];
         let base = bases[file];
         if base < path.len() {
-            heard = after_file(
+            last = after_file(
                 rules_upto(rules, end),
                 start,
                 file,
@@ -95,11 +96,11 @@ pub fn path_heard(
                 &path[at..],
                 directory,
                 fold,
-                heard,
+                last,
             );
         }
         start = end;
         file += 1;
     }
-    heard
+    last
 }

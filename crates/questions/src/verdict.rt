@@ -1,41 +1,42 @@
 // An entry's verdict: the last applicable line that matches it.
 ghost use mathlib.Core.Path.{_≡_};
 ghost use Rattle.rulefiles.specs.RuleFiles.{orderedLines};
-ghost use Rattle.rulefiles.specs.Last.{joined};
+ghost use Rattle.rulefiles.specs.Decisions.{override};
 ghost use Rattle.ignorelines.specs.IgnoreLines.{verdictOf};
+ghost use Rattle.entries.specs.Entries.{against};
 ghost use Rattle.questions.specs.Verdicts.{verdict};
-ghost use Rattle.questions.specs.Scan.{decisionOf, saidAt, ignoreAt, lastInFile};
+ghost use Rattle.questions.specs.inner.Scan.{verdictDecisionOf, decisionAt, ignoreAt, lastInFile};
 use crate::lines::content_start;
 use crate::lines::rules_upto;
 use entries::component_start;
-use ignorelines::Word;
-use ignorelines::line_word;
+use ignorelines::Effect;
+use ignorelines::line_effect;
 use rulefiles::Place;
 use rulefiles::line_end;
 
-// What the lines read so far say of an entry.
-pub enum Said {
-    Nothing,
-    Ignores(Place),
-    Reincludes(Place),
+// The verdict of an entry by the lines read so far, and the place of the line that decides it.
+pub enum EntryVerdict {
+    Undecided,
+    Ignored(Place),
+    Reincluded(Place),
 }
 
-// What is said after one line more.
-fn after_line(before: Said, word: Word, file: usize, line: usize) -> Said
-    ensures { λ r. ⌜ decisionOf r ≡ joined (decisionOf before) (saidAt file line (verdictOf word)) ⌝ }
+// The verdict after one line more.
+fn after_line(before: EntryVerdict, effect: Effect, file: usize, line: usize) -> EntryVerdict
+    ensures { λ r. ⌜ verdictDecisionOf r ≡ override (verdictDecisionOf before) (decisionAt file line (verdictOf effect)) ⌝ }
 {
     let place = Place {
         file: file,
         line: line,
     };
-    match word {
-        Word::Silent => before,
-        Word::Ignores => Said::Ignores(place),
-        Word::Reincludes => Said::Reincludes(place),
+    match effect {
+        Effect::None => before,
+        Effect::Ignores => EntryVerdict::Ignored(place),
+        Effect::Reincludes => EntryVerdict::Reincluded(place),
     }
 }
 
-// What is said after one file more, which starts at `start` of the rules up to its end.
+// The verdict after one file more, which starts at `start` of the rules up to its end.
 fn after_file(
     upto: &[u8],
     start: usize,
@@ -44,46 +45,46 @@ fn after_file(
     component: &[u8],
     directory: bool,
     fold: bool,
-    before: Said,
-) -> Said
-    ensures { λ r. ⌜ decisionOf r ≡ joined (decisionOf before) (lastInFile (ignoreAt fold directory (now (rest .entry)) (now (component .entry))) file (now (upto .entry)) start) ⌝ }
+    before: EntryVerdict,
+) -> EntryVerdict
+    ensures { λ r. ⌜ verdictDecisionOf r ≡ override (verdictDecisionOf before) (lastInFile (ignoreAt (against (now (rest .entry)) (now (component .entry)) directory fold)) file (now (upto .entry)) start) ⌝ }
 {
-    let mut said = before;
+    let mut last = before;
     let mut i = content_start(upto, start);
     let mut line = 1;
     while i < upto.len() {
         let end = line_end(upto, i);
-        let word = line_word(&upto[i..end], rest, component, directory, fold);
-        said = after_line(said, word, file, line);
+        let effect = line_effect(&upto[i..end], rest, component, directory, fold);
+        last = after_line(last, effect, file, line);
         i = end + 1;
         line += 1;
     }
-    said
+    last
 }
 
 // The entry's verdict over all files.
-pub fn entry_said(
+pub fn entry_verdict(
     rules: &[u8],
     ends: &[usize],
     bases: &[usize],
     entry: &[u8],
     directory: bool,
     fold: bool,
-) -> Said
-    ensures { λ r. ⌜ decisionOf r ≡ verdict fold (orderedLines (now (rules .entry)) (now (ends .entry)) (now (bases .entry))) (record { bytes = now (entry .entry); directory = directory }) ⌝ }
+) -> EntryVerdict
+    ensures { λ r. ⌜ verdictDecisionOf r ≡ verdict fold (orderedLines (now (rules .entry)) (now (ends .entry)) (now (bases .entry))) (record { bytes = now (entry .entry); directory = directory }) ⌝ }
 {
     let at = component_start(entry);
-    let mut said = Said::Nothing;
+    let mut last = EntryVerdict::Undecided;
     let mut start = 0;
     let mut file = 0;
     while file < ends.len() {
         if bases.len() <= file {
-            return said;
+            return last;
         }
         let end = ends[file];
         let base = bases[file];
         if base < entry.len() {
-            said = after_file(
+            last = after_file(
                 rules_upto(rules, end),
                 start,
                 file,
@@ -91,11 +92,11 @@ pub fn entry_said(
                 &entry[at..],
                 directory,
                 fold,
-                said,
+                last,
             );
         }
         start = end;
         file += 1;
     }
-    said
+    last
 }

@@ -1,6 +1,4 @@
 -- Laws that the crates above cite too.
-pub mod Order
-pub mod Says
 pub mod ScanLaws
 pub mod LowestLaws
 -- Laws that only this crate's proofs use.

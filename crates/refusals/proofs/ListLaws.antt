@@ -7,16 +7,17 @@ use Prim.Native.Nat.{ℕ, zero, suc, _+_, _-_, _<_, _≤_}
 use native.Mathlib.Omega.{arith}
 use lib.Dec.{eqb}
 use lib.ListN.{length, getD, drop, drop-of-length-le}
+use Rattle.bytestrings.specs.Text.{char}
 use Rattle.refusals.specs.Limits.{filesLimit}
-use Rattle.refusals.specs.Questions.{EndBelow, lastEnd, GoodBase, BaseMisplaced, BadLists}
-use Rattle.refusals.proofs.Says.{differs}
-use Rattle.refusals.proofs.ScanLaws.{next}
+use Rattle.refusals.specs.Conditions.{EndBelow, lastEnd, GoodBase, BaseMisplaced, BadLists}
+use Rattle.bytestrings.proofs.BoolLaws.{differs}
+use Rattle.bytestrings.proofs.SliceLaws.{next}
 
 -- Ends: those from place i on, behind the last one passed, say the same as all.
 abbrev pub EndsSo : List ℕ → ℕ → ℕ → Type 0
 EndsSo ends last i = (EndBelow ends ↔ EndBelow (last ∷ drop i ends)) × (lastEnd ends ≡ lastEnd (last ∷ drop i ends))
 
-last-zero : (ends : List ℕ) → lastEnd ends ≡ lastEnd (0 ∷ ends)
+pub last-zero : (ends : List ℕ) → lastEnd ends ≡ lastEnd (0 ∷ ends)
 last-zero [] = refl
 last-zero (e ∷ ends) = refl
 
@@ -64,8 +65,8 @@ module _ (path : List ℕ) (base : ℕ) (n : base ≡ 0 → ⊥) where
   pub base-past : length path ≤ base → GoodBase path base → ⊥
   base-past h g = ⊎-elim n (λ p. omega (arith, p .0)) g
 
-  pub base-within : base < length path → (not (eqb (getD path (base - 1) 0) 47) ≡ true) ↔ (GoodBase path base → ⊥)
-  base-within h = Iff·trans (differs (getD path (base - 1) 0) 47) (λ d g. ⊎-elim n (λ p. d (p .1)) g, λ d e. d (inr (h, e)))
+  pub base-within : base < length path → (not (eqb (getD path (base - 1) 0) (char "/")) ≡ true) ↔ (GoodBase path base → ⊥)
+  base-within h = Iff·trans (differs (getD path (base - 1) 0) (char "/")) (λ d g. ⊎-elim n (λ p. d (p .1)) g, λ d e. d (inr (h, e)))
 
 -- Bases: those from place i on say the same as all.
 module _ (path bases : List ℕ) (i : ℕ) where

@@ -10,13 +10,14 @@ use lib.Dec.{eqb}
 use lib.ListN.{length, getD, take, drop, length-drop, length-take, drop-of-length-le}
 use lib.Seq.{length-take-le, split-at, getD-drop, drop-drop}
 use borrow.Author.Tests.{ne-eqb}
-use Rattle.rulefiles.specs.RuleFiles.{File, onto, split, lineLength, part, filesFrom, files}
+use Rattle.bytestrings.specs.Text.{newline}
+use Rattle.rulefiles.specs.RuleFiles.{File, onto, split, lineLength, bytesBetween, filesFrom, files}
 use Rattle.rulefiles.proofs.LineLaws.{split-first, line-fits}
 use Rattle.refusals.specs.Limits.{lineLimit}
-use Rattle.refusals.specs.Questions.{LongLine}
-use Rattle.refusals.specs.Scans.{LongIn, LastNewline}
-use Rattle.refusals.proofs.Order.{before-or-not}
-use Rattle.refusals.proofs.ScanLaws.{next}
+use Rattle.refusals.specs.Conditions.{LongLine}
+use Rattle.refusals.specs.inner.Scans.{LongIn, AfterNewline}
+use Rattle.bytestrings.proofs.OrderLaws.{before-or-not}
+use Rattle.bytestrings.proofs.SliceLaws.{next}
 
 abbrev Within : List (List ℕ) → ℕ → Type 0
 Within ls n = (l : List ℕ) → List·Memᴰ l ls → length l ≤ n
@@ -32,7 +33,7 @@ within-onto b (l ∷ ls) n w = within-front (b ∷ l) ls (suc n) (omega (arith, 
 within-split : (s : List ℕ) → Within (split s) (length s)
 unfolding split
 within-split [] = λ l m. absurd (List·Memᴰ·not-nil m)
-within-split (b ∷ s) = go (eqb b 10) (within-split s)
+within-split (b ∷ s) = go (eqb b newline) (within-split s)
   where
     go : (t : Bool) → Within (split s) (length s) → Within (cond t ([] ∷ split s) (onto b (split s))) (suc (length s))
     go true w = within-front [] (split s) (suc (length s)) (omega arith) (λ k m. omega (arith, w k m))
@@ -42,21 +43,21 @@ within-split (b ∷ s) = go (eqb b 10) (within-split s)
 record Cut (x y : List ℕ) : Type 0 where
   first : List ℕ
   more : List (List ℕ)
-  is : split (x ++ 10 ∷ y) ≡ first ∷ more ++ split y
+  is : split (x ++ newline ∷ y) ≡ first ∷ more ++ split y
   short : Within (first ∷ more) (length x)
 
 cut : (x y : List ℕ) → Cut x y
 unfolding split
 cut [] y = record { first = []; more = []; is = refl; short = within-front [] [] 0 (omega arith) (λ k m. absurd (List·Memᴰ·not-nil m)) }
-cut (b ∷ x) y = go (eqb b 10) refl (cut x y)
+cut (b ∷ x) y = go (eqb b newline) refl (cut x y)
   where
-    go : (t : Bool) → eqb b 10 ≡ t → Cut x y → Cut (b ∷ x) y
+    go : (t : Bool) → eqb b newline ≡ t → Cut x y → Cut (b ∷ x) y
     go true e k =
         record { first = []; more = k .first ∷ k .more; is = rw (e, k .is); short = within-front [] (k .first ∷ k .more) (suc (length x)) (omega arith) (λ l m. omega (arith, k .short l m)) }
     go false e k = record { first = b ∷ k .first; more = k .more; is = rw (e, k .is); short = within-onto b (k .first ∷ k .more) (length x) (k .short) }
 
 -- A line over the limit stands after a newline that comes within the limit, or begins the bytes, or is not.
-long-behind : (x y : List ℕ) → length x ≤ lineLimit → LongIn (x ++ 10 ∷ y) ↔ LongIn y
+long-behind : (x y : List ℕ) → length x ≤ lineLimit → LongIn (x ++ newline ∷ y) ↔ LongIn y
 unfolding LongIn
 long-behind x y h =
     let k = cut x y in
@@ -75,21 +76,21 @@ long-none : (d : List ℕ) → length d ≤ lineLimit → LongIn d → ⊥
 unfolding LongIn
 long-none d h p = omega (arith, p .2, within-split d (p .0) (p .1))
 
-far : (d : List ℕ) (m : ℕ) → m ≤ length d → ((k : ℕ) → k < m → getD d k 0 ≡ 10 → ⊥) → m ≤ lineLength d
+far : (d : List ℕ) (m : ℕ) → m ≤ length d → ((k : ℕ) → k < m → getD d k 0 ≡ newline → ⊥) → m ≤ lineLength d
 far [] m h n = h
 far (b ∷ d) zero h n = omega arith
-far (b ∷ d) (suc m) h n = rw (ne-eqb b 10 (n 0 (omega arith))) (omega (arith, far d m (omega arith) (λ k l. n (suc k) (omega arith))))
+far (b ∷ d) (suc m) h n = rw (ne-eqb b newline (n 0 (omega arith))) (omega (arith, far d m (omega arith) (λ k l. n (suc k) (omega arith))))
 
 -- The same from a place of a file on.
 module _ (s : List ℕ) (at : ℕ) where
   pub long-over : at ≤ length s → length s - at ≤ lineLimit → LongIn (drop at s) → ⊥
   long-over l h = long-none (drop at s) (simp length-drop h)
 
-  module _ (to : ℕ) (l : lineLimit < length s - at) (k : LastNewline s at (at + lineLimit + 1) to) where
+  module _ (to : ℕ) (l : lineLimit < length s - at) (k : AfterNewline s at (at + lineLimit + 1) to) where
     pub long-here : to ≡ at → LongIn (drop at s)
     long-here e =
         long-first (drop at s)
-        (far (drop at s) (lineLimit + 1) (simp length-drop (omega arith)) (λ i h q. k .none e (at + i) (omega arith) (omega arith) (sym (getD-drop at s i 0) ∙ q)))
+        (far (drop at s) (lineLimit + 1) (simp length-drop (omega arith)) (λ i h q. k .not-found e (at + i) (omega arith) (omega arith) (sym (getD-drop at s i 0) ∙ q)))
 
     pub long-skip : (to ≡ at → ⊥) → LongIn (drop at s) ↔ LongIn (drop to s)
     long-skip n =
@@ -98,9 +99,10 @@ module _ (s : List ℕ) (at : ℕ) where
         let e : at + j ≡ to - 1 = omega arith in
         let f : at + suc j ≡ to = omega arith in
         let t : to ≤ at + lineLimit + 1 = k .to in
-        let g : getD (drop at s) j 0 ≡ 10 = getD-drop at s j 0 ∙ ap (λ (i : ℕ). getD s i 0) e ∙ k .newline a in
-        let p : drop at s ≡ take j (drop at s) ++ 10 ∷ drop to s =
-        split-at (drop at s) j 0 (simp length-drop (omega arith)) ∙ ap (λ (x : ℕ). take j (drop at s) ++ x ∷ drop (suc j) (drop at s)) g ∙ ap (λ (q : List ℕ). take j (drop at s) ++ 10 ∷ q) (drop-drop (suc j) at s ∙ ap (λ (i : ℕ). drop i s) f) in
+        let g : getD (drop at s) j 0 ≡ newline = getD-drop at s j 0 ∙ ap (λ (i : ℕ). getD s i 0) e ∙ k .found a in
+        let p : drop at s ≡ take j (drop at s) ++ newline ∷ drop to s =
+        split-at (drop at s) j 0 (simp length-drop (omega arith)) ∙ ap (λ (x : ℕ). take j (drop at s) ++ x ∷ drop (suc j) (drop at s)) g
+        ∙ ap (λ (q : List ℕ). take j (drop at s) ++ newline ∷ q) (drop-drop (suc j) at s ∙ ap (λ (i : ℕ). drop i s) f) in
         subst (λ (q : List ℕ). LongIn q ↔ LongIn (drop to s)) (sym p) (long-behind (take j (drop at s)) (drop to s) (simp length-take (omega arith)))
 
 -- The files, one after the other.
@@ -126,14 +128,17 @@ module _ (rules ends bases : List ℕ) (start i : ℕ) where
 
     module _ (m : i < length bases) where
       file : filesFrom i start rules (drop i ends) (drop i bases)
-          ≡ record { number = i; base = getD bases i 0; start = start; bytes = part start (getD ends i 0) rules } ∷ filesFrom (i + 1) (getD ends i 0) rules (drop (i + 1) ends) (drop (i + 1) bases)
+          ≡ record { number = i; base = getD bases i 0; start = start; bytes = bytesBetween start (getD ends i 0) rules }
+          ∷ filesFrom (i + 1) (getD ends i 0) rules (drop (i + 1) ends) (drop (i + 1) bases)
       file = rw (next ends i l, next bases i m, add-one i)
 
-      pub file-long : LongIn (part start (getD ends i 0) rules) → LongFiles (filesFrom i start rules (drop i ends) (drop i bases))
+      pub file-long : LongIn (bytesBetween start (getD ends i 0) rules) → LongFiles (filesFrom i start rules (drop i ends) (drop i bases))
       unfolding LongFiles
-      file-long h = subst (λ (fs : List File). LongFiles fs) (sym file) (record { number = i; base = getD bases i 0; start = start; bytes = part start (getD ends i 0) rules }, List·Memᴰ·head refl, h)
+      file-long h =
+          subst (λ (fs : List File). LongFiles fs) (sym file)
+          (record { number = i; base = getD bases i 0; start = start; bytes = bytesBetween start (getD ends i 0) rules }, List·Memᴰ·head refl, h)
 
-      pub file-fine : (LongIn (part start (getD ends i 0) rules) → ⊥)
+      pub file-fine : (LongIn (bytesBetween start (getD ends i 0) rules) → ⊥)
           → LongFiles (filesFrom i start rules (drop i ends) (drop i bases)) ↔ LongFiles (filesFrom (i + 1) (getD ends i 0) rules (drop (i + 1) ends) (drop (i + 1) bases))
       unfolding LongFiles
       file-fine n =
@@ -143,6 +148,7 @@ module _ (rules ends bases : List ℕ) (start i : ℕ) where
           )
 
 -- The scan for a newline from the end back.
-pub newline-other : (s : List ℕ) (end i : ℕ) → 0 < i → (getD s (i - 1) 0 ≡ 10 → ⊥) → ((k : ℕ) → k < end → i ≤ k → getD s k 0 ≡ 10 → ⊥) → (k : ℕ) → k < end → i - 1 ≤ k → getD s k 0 ≡ 10 → ⊥
+pub newline-other : (s : List ℕ) (end i : ℕ) → 0 < i → (getD s (i - 1) 0 ≡ newline → ⊥) → ((k : ℕ) → k < end → i ≤ k → getD s k 0 ≡ newline → ⊥) → (k : ℕ) → k < end → i - 1 ≤ k → getD s k 0 ≡ newline
+    → ⊥
 newline-other s end i p n f k l h e =
     ⊎-elim (λ b. let q : k ≡ i - 1 = omega arith in n (ap (λ (j : ℕ). getD s j 0) (sym q) ∙ e)) (λ b. f k l b e) (before-or-not k i)

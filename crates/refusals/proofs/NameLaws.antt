@@ -9,8 +9,8 @@ use lib.Dec.{leb, eqb}
 use lib.ListN.{length, getD, drop, drop-of-length-le}
 use borrow.Author.Tests.{eq-eqb, ne-eqb, not-true}
 use Rattle.refusals.specs.Limits.{nameLimit}
-use Rattle.refusals.specs.Questions.{nameByte, nameBytes, goodName, BadName}
-use Rattle.refusals.proofs.ScanLaws.{next}
+use Rattle.refusals.specs.Conditions.{nameByte, nameBytes, goodName, BadName}
+use Rattle.bytestrings.proofs.SliceLaws.{next}
 
 -- A byte of a name, by the tests in their order.
 module _ (b : ℕ) (small : Bool) (s : small ≡ (leb 97 b && leb b 122)) where

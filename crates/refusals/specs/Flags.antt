@@ -1,4 +1,5 @@
--- Document 01, "How rule files are lent": "Flags are one number".
+-- Document 01, "How rule files are lent": "Flags are one number". What the two flags mean stands with each call: wildmatch Answers.modeOf, questions
+-- Answers.pathEntry and folds.
 use Prim.Native.Nat.{ℕ, _+_}
 use mathlib.Core.Bool.{Bool, true, false, cond, _||_}
 use lib.Dec.{eqb}

@@ -1,9 +1,7 @@
--- What a reader must believe:
+-- What a reader must believe, in the paper's order:
 pub mod Limits
 pub mod Flags
 pub mod Refusals
-pub mod Questions
--- Inner definitions, which only the contracts of private functions cite:
-pub mod Places
-pub mod Scans
-pub mod Tests
+pub mod Conditions
+-- Inner definitions, none of which a public contract cites:
+pub mod inner

@@ -1,4 +1,4 @@
--- Document 01, "When a question is turned away": the conditions of refusals 7 to 9 in the table's words, and "the lowest is answered". `Questions` has 1 to 6.
+-- Document 01, "When a question is turned away": the conditions of refusals 7 to 9 in the table's words, and "the lowest is answered". `Conditions` has 1 to 6.
 use Prim.Native.Nat.{ℕ, _<_}
 use mathlib.Core.Path.{_≡_}
 use mathlib.Core.Logic.{_⊎_}
@@ -22,12 +22,12 @@ FlagsHigh flags = flagsLimit < flags
 unfoldable pub Lowest : (ℕ → Type 0) → ℕ → Type 0
 Lowest Condition n = Condition n × ((k : ℕ) → k < n → Condition k → ⊥)
 
--- "A question is accepted if no refusal in the table holds."
+-- 01's *accepted*: "A question is accepted if no refusal in the table holds."
 unfoldable pub Accepted : (ℕ → Type 0) → Type 0
 Accepted Condition = (n : ℕ) → Condition n → ⊥
 
--- what the tests of a call find: the lowest refusal, or 0 where the question is accepted
-pub record Found (Condition : ℕ → Type 0) (n : ℕ) : Type 0 where
+-- what the checks of a call find: the lowest refusal, or 0 where the question is accepted
+pub record LowestOrNone (Condition : ℕ → Type 0) (n : ℕ) : Type 0 where
   pub lowest : (n ≡ 0 → ⊥) → Lowest Condition n
   pub accepted : n ≡ 0 → Accepted Condition
 

@@ -1,11 +1,12 @@
-// The tests behind the refusals of document 01, each a leaf with its own contract, and the refusals of the two questions.
+// When a question is refused: the test of each of document 01's conditions, a leaf with its own contract, and the lowest refusal of each question.
+// Limits stand here, each once. For a user: docs/RULES.md, "Limits and refusals".
 ghost use mathlib.Core.Path.{_≡_};
 ghost use mathlib.Core.Logic.{_↔_};
 ghost use mathlib.Core.Bool.{true};
 ghost use Prim.Native.Nat.{_+_, _≤_};
 ghost use lib.ListN.{length};
 ghost use Rattle.refusals.specs.Refusals.{TooLong, HoldsZero};
-ghost use Rattle.refusals.specs.Places.{ByteIn, Zero};
+ghost use Rattle.refusals.specs.inner.Places.{ByteIn, Zero};
 
 pub mod flags;
 pub mod lists;
@@ -27,10 +28,6 @@ const RULES_LIMIT: usize = 65536;
 const LINE_LIMIT: usize = 2048;
 
 const NAME_LIMIT: usize = 255;
-
-const NEWLINE: u8 = 10;
-
-const SLASH: u8 = 47;
 
 // Whether the pattern or the text is over its limit.
 pub fn too_long(pattern: &[u8], text: &[u8]) -> bool

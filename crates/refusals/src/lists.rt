@@ -2,9 +2,8 @@
 ghost use mathlib.Core.Path.{_≡_};
 ghost use mathlib.Core.Logic.{_↔_, _⊎_};
 ghost use mathlib.Core.Bool.{true};
-ghost use Rattle.refusals.specs.Questions.{EndBelow, lastEnd, GoodBase, BaseMisplaced, BadLists};
+ghost use Rattle.refusals.specs.Conditions.{EndBelow, lastEnd, GoodBase, BaseMisplaced, BadLists};
 use crate::FILES_LIMIT;
-use crate::SLASH;
 
 // Whether an end is below the one before, or the last is not n.
 fn ends_bad(ends: &[usize], n: usize) -> bool
@@ -33,7 +32,7 @@ fn base_bad(path: &[u8], base: usize) -> bool
     if path.len() <= base {
         return true;
     }
-    path[base - 1] != SLASH
+    path[base - 1] != b'/'
 }
 
 // Whether a base is misplaced.

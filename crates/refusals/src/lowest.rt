@@ -1,7 +1,7 @@
 // The lowest refusal of each question.
-ghost use Rattle.refusals.specs.Refusals.{Found};
-ghost use Rattle.refusals.specs.Questions.{IgnoreRefuses, AttributeRefuses};
-ghost use Rattle.refusals.specs.Tests.{LentTold};
+ghost use Rattle.refusals.specs.Refusals.{LowestOrNone};
+ghost use Rattle.refusals.specs.Conditions.{IgnoreRefuses, AttributeRefuses};
+ghost use Rattle.refusals.specs.inner.Checks.{LentFirstHolding};
 use crate::flags::flags_high;
 use crate::holds_zero;
 use crate::lists::lists_bad;
@@ -12,7 +12,7 @@ use crate::rules::rules_long;
 
 // The lowest refusal of the lent path and rules, or 0.
 fn lent_refusal(path: &[u8], rules: &[u8], ends: &[usize], bases: &[usize]) -> u8
-    ensures { λ r. ⌜ LentTold (now (path .entry)) (now (rules .entry)) (now (ends .entry)) (now (bases .entry)) r ⌝ }
+    ensures { λ r. ⌜ LentFirstHolding (now (path .entry)) (now (rules .entry)) (now (ends .entry)) (now (bases .entry)) r ⌝ }
 {
     if path_bad(path) {
         return 1;
@@ -34,7 +34,7 @@ fn lent_refusal(path: &[u8], rules: &[u8], ends: &[usize], bases: &[usize]) -> u
 
 // The lowest refusal of the ignore question, or 0 where it is accepted.
 pub fn ignore_refusal(path: &[u8], rules: &[u8], ends: &[usize], bases: &[usize], flags: u64) -> u8
-    ensures { λ r. ⌜ Found (IgnoreRefuses (now (path .entry)) (now (rules .entry)) (now (ends .entry)) (now (bases .entry)) flags) r ⌝ }
+    ensures { λ r. ⌜ LowestOrNone (IgnoreRefuses (now (path .entry)) (now (rules .entry)) (now (ends .entry)) (now (bases .entry)) flags) r ⌝ }
 {
     let lent = lent_refusal(path, rules, ends, bases);
     if lent != 0 {
@@ -55,7 +55,7 @@ pub fn attribute_refusal(
     name: &[u8],
     flags: u64,
 ) -> u8
-    ensures { λ r. ⌜ Found (AttributeRefuses (now (path .entry)) (now (rules .entry)) (now (ends .entry)) (now (bases .entry)) (now (name .entry)) flags) r ⌝ }
+    ensures { λ r. ⌜ LowestOrNone (AttributeRefuses (now (path .entry)) (now (rules .entry)) (now (ends .entry)) (now (bases .entry)) (now (name .entry)) flags) r ⌝ }
 {
     let first = lent_refusal(path, rules, ends, bases);
     if first != 0 {

@@ -1,20 +1,14 @@
 // Refusal 6: the attribute's name.
 ghost use mathlib.Core.Path.{_≡_};
 ghost use mathlib.Core.Logic.{_↔_};
-ghost use mathlib.Core.Bool.{true, _&&_};
-ghost use lib.Dec.{leb};
-ghost use Rattle.refusals.specs.Questions.{nameByte, goodName, BadName};
+ghost use mathlib.Core.Bool.{true};
+ghost use Rattle.bytestrings.specs.Bytes.{inRange};
+ghost use Rattle.refusals.specs.Conditions.{nameByte, goodName, BadName};
 use crate::NAME_LIMIT;
-
-const HYPHEN: u8 = 45;
-
-const FULL_STOP: u8 = 46;
-
-const UNDERSCORE: u8 = 95;
 
 // Whether a byte is from low to high.
 fn between(low: u8, high: u8, b: u8) -> bool
-    ensures { λ r. ⌜ r ≡ (leb low b && leb b high) ⌝ }
+    ensures { λ r. ⌜ r ≡ inRange low high b ⌝ }
 {
     low <= b && b <= high
 }
@@ -23,22 +17,22 @@ fn between(low: u8, high: u8, b: u8) -> bool
 fn name_byte(b: u8) -> bool
     ensures { λ r. ⌜ r ≡ nameByte b ⌝ }
 {
-    if between(97, 122, b) {
+    if between(b'a', b'z', b) {
         return true;
     }
-    if between(65, 90, b) {
+    if between(b'A', b'Z', b) {
         return true;
     }
-    if between(48, 57, b) {
+    if between(b'0', b'9', b) {
         return true;
     }
-    if b == HYPHEN {
+    if b == b'-' {
         return true;
     }
-    if b == FULL_STOP {
+    if b == b'.' {
         return true;
     }
-    b == UNDERSCORE
+    b == b'_'
 }
 
 // Whether a name is good, however long.
@@ -48,7 +42,7 @@ pub fn name_good(name: &[u8]) -> bool
     if name.len() == 0 {
         return false;
     }
-    if name[0] == HYPHEN {
+    if name[0] == b'-' {
         return false;
     }
     let mut i = 0;

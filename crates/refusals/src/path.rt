@@ -4,16 +4,13 @@ ghost use mathlib.Core.Logic.{_↔_};
 ghost use mathlib.Core.Bool.{true};
 ghost use Prim.Native.Nat.{_+_, _≤_};
 ghost use lib.ListN.{length, drop};
-ghost use Rattle.refusals.specs.Questions.{ControlByte, HoldsControl, BadPath};
-ghost use Rattle.refusals.specs.Places.{ByteIn};
-ghost use Rattle.refusals.specs.Scans.{endsHere, badHere};
+ghost use Rattle.refusals.specs.Conditions.{ControlByte, HoldsControl, BadPath};
+ghost use Rattle.refusals.specs.inner.Places.{ByteIn};
+ghost use Rattle.refusals.specs.inner.Scans.{endsHere, badHere};
 use crate::PATH_LIMIT;
-use crate::SLASH;
-
-const DOT: u8 = 46;
 
 // The control bytes are those below this one, and DELETE.
-const SPACE: u8 = 32;
+const CONTROL_END: u8 = 32;
 
 const DELETE: u8 = 127;
 
@@ -26,7 +23,7 @@ fn control_in(path: &[u8], i: usize, n: usize) -> bool
     let mut delete = false;
     let mut j = 0;
     while j < n {
-        if path[i + j] < SPACE {
+        if path[i + j] < CONTROL_END {
             low = true;
         }
         if path[i + j] == DELETE {
@@ -64,7 +61,7 @@ fn ends_here(path: &[u8], at: usize) -> bool
     if path.len() <= at {
         return true;
     }
-    path[at] == SLASH
+    path[at] == b'/'
 }
 
 // Whether the component that starts at `at` is empty, `.` or `..`.
@@ -74,13 +71,13 @@ fn bad_here(path: &[u8], at: usize) -> bool
     if ends_here(path, at) {
         return true;
     }
-    if path[at] != DOT {
+    if path[at] != b'.' {
         return false;
     }
     if ends_here(path, at + 1) {
         return true;
     }
-    if path[at + 1] != DOT {
+    if path[at + 1] != b'.' {
         return false;
     }
     ends_here(path, at + 2)
@@ -101,7 +98,7 @@ pub fn path_bad(path: &[u8]) -> bool
     }
     let mut i = 0;
     while i < path.len() {
-        if path[i] == SLASH {
+        if path[i] == b'/' {
             if bad_here(path, i + 1) {
                 return true;
             }

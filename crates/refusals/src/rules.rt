@@ -4,10 +4,9 @@ ghost use mathlib.Core.Logic.{_↔_};
 ghost use mathlib.Core.Bool.{true};
 ghost use Prim.Native.Nat.{_≤_};
 ghost use lib.ListN.{length};
-ghost use Rattle.refusals.specs.Questions.{RulesLong, LongLine};
-ghost use Rattle.refusals.specs.Scans.{LongIn, LastNewline};
+ghost use Rattle.refusals.specs.Conditions.{RulesLong, LongLine};
+ghost use Rattle.refusals.specs.inner.Scans.{LongIn, AfterNewline};
 use crate::LINE_LIMIT;
-use crate::NEWLINE;
 use crate::RULES_LIMIT;
 use rulefiles::file_part;
 
@@ -21,12 +20,12 @@ pub fn rules_long(rules: &[u8]) -> bool
 // The place just after the last newline from `at` on and before `end`, or `at` where there is none.
 fn after_newline(file: &[u8], at: usize, end: usize) -> usize
     requires { ⌜ (at ≤ end) × (end ≤ length (now file)) ⌝ }
-    ensures { λ r. ⌜ LastNewline (now (file .entry)) at end r ⌝ }
+    ensures { λ r. ⌜ AfterNewline (now (file .entry)) at end r ⌝ }
 {
     let mut i = end;
     while at < i {
         let before = i - 1;
-        if file[before] == NEWLINE {
+        if file[before] == b'\n' {
             return i;
         }
         i = before;

@@ -1,4 +1,6 @@
 -- Laws that the crates above cite too.
 pub mod LineLaws
-pub mod LastLaws
+pub mod DecisionLaws
 pub mod PartLaws
+-- Theorem: what the last decision is.
+pub mod DecisionMeaning

@@ -1,5 +1,3 @@
--- What a reader must believe:
+-- What a reader must believe, in the paper's order:
 pub mod RuleFiles
-pub mod Last
--- Proved of it:
-pub mod LastMeaning
+pub mod Decisions

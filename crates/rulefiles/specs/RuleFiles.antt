@@ -1,11 +1,14 @@
--- Document 01, "How rule files are lent" and the splitting into lines: files, lines, and where each line stands.
+-- Document 01, "How rule files are lent" and, of "Ignore lines", the splitting into lines: files, lines, and where each line stands.
 use Prim.Native.Nat.{ℕ, suc, _+_, _-_}
 use mathlib.Core.Bool.{Bool, false, cond, _&&_}
 use mathlib.Core.List.{List, [], _∷_, _++_}
 use lib.Dec.{eqb}
 use lib.ListN.{length, take, drop}
+use Rattle.bytestrings.specs.Text.{newline}
+use Rattle.bytestrings.specs.Bytes.{lengthUntil}
 
--- a file as it is lent: its number, "Files count from 0"; its base; where it starts in the rule bytes; its bytes
+-- a file as it is lent: its number, "Files count from 0"; its *base*, 01's term for "how many leading bytes of the path are its directory with
+-- the slash, 0 at the top"; where it starts in the rule bytes; its bytes
 pub record File : Type 0 where
   pub number : ℕ
   pub base : ℕ
@@ -22,8 +25,8 @@ pub record Line : Type 0 where
   pub bytes : List ℕ
 
 -- the bytes from a start to an end
-unfoldable pub part : ℕ → ℕ → List ℕ → List ℕ
-part start end bytes = take (end - start) (drop start bytes)
+unfoldable pub bytesBetween : ℕ → ℕ → List ℕ → List ℕ
+bytesBetween start end bytes = take (end - start) (drop start bytes)
 
 -- "All rule files lie end to end in one lent byte buffer, lowest precedence first. Two lent lists of numbers, one entry a file, give its end
 -- in the buffer and its base". The files from one number and start on
@@ -31,13 +34,13 @@ abbrev pub filesFrom : ℕ → ℕ → List ℕ → List ℕ → List ℕ → Li
 filesFrom number start rules [] bases = []
 filesFrom number start rules (end ∷ ends) [] = []
 filesFrom number start rules (end ∷ ends) (base ∷ bases) =
-    record { number = number; base = base; start = start; bytes = part start end rules } ∷ filesFrom (suc number) end rules ends bases
+    record { number = number; base = base; start = start; bytes = bytesBetween start end rules } ∷ filesFrom (suc number) end rules ends bases
 
 -- all files
 unfoldable pub files : List ℕ → List ℕ → List ℕ → List File
 files rules ends bases = filesFrom 0 0 rules ends bases
 
--- one byte more in front of the first line
+-- one byte more at the start of the first line
 abbrev pub onto : ℕ → List (List ℕ) → List (List ℕ)
 onto b [] = (b ∷ []) ∷ []
 onto b (l ∷ ls) = (b ∷ l) ∷ ls
@@ -45,16 +48,15 @@ onto b (l ∷ ls) = (b ∷ l) ∷ ls
 -- "split at byte 10 .. Bytes after the last newline are a line only if there are any."
 unfoldable pub split : List ℕ → List (List ℕ)
 split [] = []
-split (b ∷ s) = cond (eqb b 10) ([] ∷ split s) (onto b (split s))
+split (b ∷ s) = cond (eqb b newline) ([] ∷ split s) (onto b (split s))
 
 -- how many bytes stand before the first newline; all where there is none
 abbrev pub lineLength : List ℕ → ℕ
-lineLength [] = 0
-lineLength (b ∷ s) = cond (eqb b 10) 0 (suc (lineLength s))
+lineLength s = lengthUntil (λ b. eqb b newline) s
 
 -- "a UTF-8 BOM (EF BB BF) at the file's start"
 abbrev pub hasBom : List ℕ → Bool
-hasBom (a ∷ b ∷ c ∷ s) = eqb a 239 && (eqb b 187 && eqb c 191)
+hasBom (a ∷ b ∷ c ∷ s) = eqb a 0xEF && (eqb b 0xBB && eqb c 0xBF)
 hasBom (a ∷ b ∷ []) = false
 hasBom (a ∷ []) = false
 hasBom [] = false
@@ -78,6 +80,6 @@ abbrev pub linesOfAll : List File → List Line
 linesOfAll [] = []
 linesOfAll (f ∷ fs) = linesOf f ++ linesOfAll fs
 
--- "The ordered lines are all lines of file 0, then of file 1 and so on"
+-- 01's *ordered lines*: "all lines of file 0, then of file 1 and so on"
 unfoldable pub orderedLines : List ℕ → List ℕ → List ℕ → List Line
 orderedLines rules ends bases = linesOfAll (files rules ends bases)

@@ -1,8 +1,10 @@
-// Rule files end to end in one lent buffer: a file's bytes, its BOM, the end of a line.
+// Rule files end to end in one lent buffer: a file's bytes, its BOM, the end of a line. The definitions beside it say what the lines of all files
+// are and which of them decides; both questions stand on these. For a user: docs/RULES.md, "Rule files and lines".
 ghost use mathlib.Core.Path.{_≡_};
 ghost use Prim.Native.Nat.{_+_};
 ghost use lib.ListN.{drop};
-ghost use Rattle.rulefiles.specs.RuleFiles.{part, bomLength, lineLength};
+ghost use Rattle.rulefiles.specs.RuleFiles.{bytesBetween, bomLength, lineLength};
+use bytestrings::find_byte;
 
 // Where a line stands: its file, counted from 0, and its number, from 1.
 pub struct Place {
@@ -10,17 +12,15 @@ pub struct Place {
     pub line: usize,
 }
 
-const NEWLINE: u8 = 10;
+const BOM_FIRST: u8 = 0xEF;
 
-const BOM_FIRST: u8 = 239;
+const BOM_SECOND: u8 = 0xBB;
 
-const BOM_SECOND: u8 = 187;
-
-const BOM_THIRD: u8 = 191;
+const BOM_THIRD: u8 = 0xBF;
 
 // The bytes of a file that lies in the rules from its start to its end. Numbers past the buffer give what of the file is in it.
 pub fn file_part(rules: &[u8], start: usize, end: usize) -> &[u8]
-    ensures { λ r. ⌜ now r ≡ part start end (now (rules .entry)) ⌝ }
+    ensures { λ r. ⌜ now r ≡ bytesBetween start end (now (rules .entry)) ⌝ }
 {
     if end <= start {
         return &rules[..0];
@@ -57,12 +57,5 @@ pub fn bom_length(file: &[u8]) -> usize
 pub fn line_end(file: &[u8], at: usize) -> usize
     ensures { λ r. ⌜ r ≡ at + lineLength (drop at (now (file .entry))) ⌝ }
 {
-    let mut i = at;
-    while i < file.len() {
-        if file[i] == NEWLINE {
-            return i;
-        }
-        i += 1;
-    }
-    i
+    find_byte(file, at, b'\n')
 }

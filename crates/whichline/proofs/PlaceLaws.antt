@@ -9,7 +9,8 @@ use borrow.Author.Tests.{le-leb, lt-leb, eq-eqb, ne-eqb}
 use lib.Dec.{eqb}
 use lib.ListN.{length, drop, getD, drop-of-length-le}
 use lib.Seq.{drop-cons}
-use Rattle.entries.specs.Entries.{firstIs}
+use Rattle.bytestrings.specs.Text.{char}
+use Rattle.bytestrings.specs.Bytes.{firstIs}
 use Rattle.io.specs.Digits.{Fewest}
 use Rattle.whichline.specs.Places.{after, control, letterOf, afterQuoted, afterBytes, isText, plain, afterField, reasonLength, AfterRefusal}
 
@@ -61,25 +62,26 @@ first-is : (b : ℕ) (s : List ℕ) → (length s ≡ 0 → ⊥) → firstIs b s
 first-is b [] h = absurd (h refl)
 first-is b (x ∷ s) h = refl
 
-pub quote-first : (s : List ℕ) → (length s ≡ 0 → ⊥) → getD s 0 0 ≡ 34 → false ≡ plain s
+pub quote-first : (s : List ℕ) → (length s ≡ 0 → ⊥) → getD s 0 0 ≡ char "\"" → false ≡ plain s
 unfolding plain
-quote-first s h e = rw (first-is 34 s h, eq-eqb (getD s 0 0) 34 e)
+quote-first s h e = rw (first-is (char "\"") s h, eq-eqb (getD s 0 0) (char "\"") e)
 
-pub plain-text : (s : List ℕ) (t : Bool) → (length s ≡ 0 → ⊥) → (getD s 0 0 ≡ 34 → ⊥) → isText s ≡ t → t ≡ plain s
+pub plain-text : (s : List ℕ) (t : Bool) → (length s ≡ 0 → ⊥) → (getD s 0 0 ≡ char "\"" → ⊥) → isText s ≡ t → t ≡ plain s
 unfolding plain
-plain-text s t h e f = rw (first-is 34 s h, ne-eqb (getD s 0 0) 34 e) (sym f)
+plain-text s t h e f = rw (first-is (char "\"") s h, ne-eqb (getD s 0 0) (char "\"") e) (sym f)
 
 -- a field is put as it is, or between quotes
 pub field-plain : (room place r : ℕ) (s : List ℕ) → plain s ≡ true → r ≡ after room place (length s) → r ≡ afterField room place s
 unfolding afterField
 field-plain room place r s e f = rw e f
 
-pub field-quoted : (room inner more place first last r : ℕ) (s : List ℕ) → plain s ≡ false → first ≡ after room place 1 → afterBytes inner first s ≡ last → r ≡ after more last 1 → more ≡ room → inner ≡ room
+pub field-quoted : (room inner more place first last r : ℕ) (s : List ℕ) → plain s ≡ false → first ≡ after room place 1 → afterBytes inner first s ≡ last → r ≡ after more last 1 → more ≡ room
+    → inner ≡ room
     → r ≡ afterField room place s
 unfolding afterField
 field-quoted room inner more place first last r s e f g h m k = rw (e, ← f, ← k, g, k, ← m) h
 
--- the pieces of a refusal, put one after the other into a buffer that keeps its length
+-- the parts of a refusal, put one after the other into a buffer that keeps its length
 pub refusal-put : (out : List ℕ) (second third fourth place word n number colon r : ℕ) → word ≡ after (length out) place 8 → (digits : ℕ) × Fewest 10 1 n digits × (number ≡ after second word digits)
     → colon ≡ after third number 2 → r ≡ after fourth colon (reasonLength n) → second ≡ length out → third ≡ length out → fourth ≡ length out → AfterRefusal out place n r
 refusal-put out second third fourth place word n number colon r e f g h s t u =

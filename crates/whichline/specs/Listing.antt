@@ -1,13 +1,12 @@
 -- A listing that is read piece by piece: what the bytes that are read and not yet answered come to.
-use Prim.Native.Nat.{ℕ, _+_, _-_, _≤_}
-use mathlib.Core.Path.{_≡_}
-use mathlib.Core.Bool.{Bool, true, false, cond, _&&_, _||_}
+use Prim.Native.Nat.{ℕ, _+_, _-_}
+use mathlib.Core.Bool.{true, false, cond, _&&_, _||_}
 use mathlib.Core.List.{List}
 use lib.Dec.{ltb, leb}
 use lib.ListN.{length}
+use Rattle.bytestrings.specs.Text.{newline}
 use Rattle.bytes.specs.Bytes.{indexOf, slice}
 use Rattle.whichline.specs.declared.listing.Unread.{Unread}
-use Rattle.whichline.specs.declared.listing.Line.{Line}
 use Rattle.whichline.specs.declared.listing.Found.{Found}
 use Rattle.whichline.specs.declared.listing.Found.the-variants.{Next, Over, More, Again}
 
@@ -17,12 +16,13 @@ nothingRead = record { start = 0; have = 0; passing = false; over = false }
 
 -- where the first unread line ends: at its newline, or where what is read ends
 unfoldable pub lineEnd : List ℕ → ℕ → ℕ → ℕ
-lineEnd buffer start have = cond (leb start have && leb have (length buffer)) (start + indexOf 10 (slice start have buffer)) have
+lineEnd buffer start have = cond (leb start have && leb have (length buffer)) (start + indexOf newline (slice start have buffer)) have
 
 -- a line; of one with over 8,192 bytes, its front
 unfoldable pub foundLine : ℕ → ℕ → Unread → Found
 foundLine start end rest =
-    cond (ltb end start) Over (cond (leb (end - start) 8192) (Next (record { start = start; end = end; cut = false; after = rest })) (Next (record { start = start; end = start + 8192; cut = true; after = rest })))
+    cond (ltb end start) Over (cond (leb (end - start) 8192) (Next (record { start = start; end = end; cut = false; after = rest }))
+    (Next (record { start = start; end = start + 8192; cut = true; after = rest })))
 
 -- what is unread behind a newline
 abbrev pub behindLine : Unread → ℕ → Unread

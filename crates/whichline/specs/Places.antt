@@ -5,12 +5,13 @@ use mathlib.Core.Bool.{Bool, true, cond, not, _&&_, _||_}
 use mathlib.Core.List.{List, [], _∷_}
 use lib.Dec.{eqb, ltb, leb}
 use lib.ListN.{length}
-use Rattle.entries.specs.Entries.{firstIs}
+use Rattle.bytestrings.specs.Text.{char, tab, newline, carriageReturn}
+use Rattle.bytestrings.specs.Bytes.{firstIs}
 use Rattle.io.specs.Digits.{Fewest}
 use Rattle.questions.specs.declared.IgnoreAnswer.{IgnoreAnswer}
-use Rattle.questions.specs.declared.IgnoreAnswer.the-variants.{Nothing, Ignored, Reincluded, Refused}
+use Rattle.questions.specs.declared.IgnoreAnswer.the-variants.{Undecided, Ignored, Reincluded, Refused}
 use Rattle.questions.specs.declared.AttributeAnswer.{AttributeAnswer}
-use Rattle.questions.specs.declared.AttributeAnswer.the-variants.{Nothing as Unsaid, Said, Refused as Turned}
+use Rattle.questions.specs.declared.AttributeAnswer.the-variants.{Undecided as AttributeUndecided, Decided, Refused as AttributeRefused}
 
 -- a place in a buffer of so many bytes, the place before n bytes more: after them, or where it was if they do not fit
 unfoldable pub after : ℕ → ℕ → ℕ → ℕ
@@ -31,7 +32,15 @@ control b = ltb b 32 || eqb b 127
 -- the letter that stands for a byte after a `\`, as in C; 0 where there is none
 unfoldable pub letterOf : ℕ → ℕ
 letterOf b =
-    cond (eqb b 7) 97 (cond (eqb b 8) 98 (cond (eqb b 9) 116 (cond (eqb b 10) 110 (cond (eqb b 11) 118 (cond (eqb b 12) 102 (cond (eqb b 13) 114 (cond (eqb b 34) 34 (cond (eqb b 92) 92 0))))))))
+    cond (eqb b 7) (char "a")
+    (cond (eqb b 8) (char "b")
+    (cond (eqb b tab) (char "t")
+    (cond (eqb b newline) (char "n")
+    (cond (eqb b 11) (char "v")
+    (cond (eqb b 12) (char "f")
+    (cond (eqb b carriageReturn) (char "r")
+    (cond (eqb b (char "\"")) (char "\"")
+    (cond (eqb b (char "\\")) (char "\\") 0))))))))
 
 -- a byte between quotes is put: a letter after a `\`, three octal digits after it, or itself
 unfoldable pub afterQuoted : ℕ → ℕ → ℕ → ℕ
@@ -49,7 +58,7 @@ isText (b ∷ s) = not (control b) && isText s
 
 -- a field is written as it is
 unfoldable pub plain : List ℕ → Bool
-plain s = not (firstIs 34 s) && isText s
+plain s = not (firstIs (char "\"") s) && isText s
 
 -- a field is put: as it is, or between quotes
 unfoldable pub afterField : ℕ → ℕ → List ℕ → ℕ
@@ -67,13 +76,13 @@ AfterRefusal out place n r =
 
 -- an answer of the ignore question is put; the rule file that a decision names is an argument, which comes from the outside
 abbrev pub AfterIgnore : List ℕ → ℕ → IgnoreAnswer → ℕ → Type 0
-AfterIgnore out place Nothing r = r ≡ after (length out) place 7
+AfterIgnore out place Undecided r = r ≡ after (length out) place 7
 AfterIgnore out place (Ignored d) r = Onward out place r
 AfterIgnore out place (Reincluded d) r = Onward out place r
 AfterIgnore out place (Refused n) r = AfterRefusal out place n r
 
 -- the same for the attribute question
 abbrev pub AfterAttribute : List ℕ → ℕ → AttributeAnswer → ℕ → Type 0
-AfterAttribute out place Unsaid r = r ≡ after (length out) place 7
-AfterAttribute out place (Said s) r = Onward out place r
-AfterAttribute out place (Turned n) r = AfterRefusal out place n r
+AfterAttribute out place AttributeUndecided r = r ≡ after (length out) place 7
+AfterAttribute out place (Decided s) r = Onward out place r
+AfterAttribute out place (AttributeRefused n) r = AfterRefusal out place n r

@@ -1,5 +1,5 @@
 // The answers: each path of the listing is asked over the rule files above it, and answered by a line of fields.
-ghost use Rattle.lending.specs.Room.{Within};
+ghost use Rattle.lending.specs.inner.Room.{Within};
 use crate::buffers;
 use crate::fields::append;
 use crate::fields::append_field;
@@ -7,7 +7,7 @@ use crate::given;
 use crate::listing;
 use crate::listing::Found;
 use crate::listing::Line;
-use crate::words;
+use crate::messages;
 use crate::written::append_attribute;
 use crate::written::append_ignore;
 use lending::Lending;
@@ -47,8 +47,8 @@ fn append_answer(
 ) -> usize {
     let f = flags(path.len() < line.len(), q.fold);
     if q.attribute {
-        let said = questions::attribute::attribute(path, rules, ends, bases, name, f);
-        return append_attribute(out, at, said, line, rules, numbers, names);
+        let answer = questions::attribute::attribute(path, rules, ends, bases, name, f);
+        return append_attribute(out, at, answer, line, rules, numbers, names);
     }
     let answer = questions::ignore::ignore(path, rules, ends, bases, f);
     append_ignore(out, at, answer, line, numbers, names)
@@ -168,7 +168,7 @@ fn write_out(out: &[u8], n: usize, last: bool) -> usize {
         return n;
     }
     if !io::write_all(STDOUT_FILENO, &out[..n]) {
-        words::failed(b"standard output");
+        messages::failed(b"standard output");
         return usize::MAX;
     }
     0

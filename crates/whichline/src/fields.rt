@@ -4,6 +4,11 @@ ghost use mathlib.Core.Path.{_≡_};
 ghost use lib.ListN.{length};
 ghost use Rattle.whichline.specs.Places.{after, Onward, AfterNumber, control, letterOf, afterQuoted, plain, afterField};
 
+// The control bytes are those below this one, and DELETE.
+const CONTROL_END: u8 = 32;
+
+const DELETE: u8 = 127;
+
 // Puts bytes at a place of `out` and answers the place after them. The caller leaves room: without it nothing is put.
 pub fn append(out: &mut [u8], at: usize, s: &[u8]) -> usize
     ensures { λ r. ⌜ r ≡ after (length (now (out .entry))) at (length (now (s .entry))) ⌝ }
@@ -42,7 +47,7 @@ pub fn append_number(out: &mut [u8], at: usize, n: u64) -> usize
 fn is_control(b: u8) -> bool
     ensures { λ r. ⌜ r ≡ control b ⌝ }
 {
-    b < 32 || b == 127
+    b < CONTROL_END || b == DELETE
 }
 
 // Whether a field is written as it is.

@@ -1,10 +1,10 @@
 // The rule files that the arguments give, lowest first: each file's bytes, the directory that it stands in, and which argument names it.
 ghost use mathlib.Core.Path.{_≡_};
-ghost use Rattle.entries.specs.Entries.{withoutSlash};
+ghost use Rattle.entries.specs.Entries.{withoutLastSlash};
 ghost use Rattle.whichline.specs.Bounds.{SameFiles, Held};
 use crate::arguments;
+use crate::messages;
 use crate::reading;
-use crate::words;
 
 const SLASH: u8 = 47;
 
@@ -39,7 +39,7 @@ fn add_file(i: usize, files: &mut [u8], used: usize) -> usize {
     let mut name = io::buffer();
     let n = os::arg(i, &mut name);
     if os::errno() != 0 {
-        words::wrong(b"a rule file is missing, or its name is too long");
+        messages::wrong(b"a rule file is missing, or its name is too long");
         return usize::MAX;
     }
     let end = reading::read_file(&name[..n], files, used);
@@ -50,11 +50,11 @@ fn add_file(i: usize, files: &mut [u8], used: usize) -> usize {
         return usize::MAX;
     }
     if refusals::rules::rules_long(&files[used..end]) {
-        words::about(&name[..n], b"over 65,536 bytes");
+        messages::about(&name[..n], b"over 65,536 bytes");
         return usize::MAX;
     }
     if end == files.len() {
-        words::about(&name[..n], b"with the files before it, over 262,144 bytes");
+        messages::about(&name[..n], b"with the files before it, over 262,144 bytes");
         return usize::MAX;
     }
     end
@@ -62,7 +62,7 @@ fn add_file(i: usize, files: &mut [u8], used: usize) -> usize {
 
 // A directory of the archive without its last slash, which may be given or not.
 pub fn without_slash(directory: &[u8]) -> &[u8]
-    ensures { λ r. ⌜ now r ≡ withoutSlash (now (directory .entry)) ⌝ }
+    ensures { λ r. ⌜ now r ≡ withoutLastSlash (now (directory .entry)) ⌝ }
 {
     let n = directory.len();
     if n == 0 {
@@ -79,7 +79,7 @@ pub fn without_slash(directory: &[u8]) -> &[u8]
 fn put_directory(directory: &[u8], directories: &mut [u8], used: usize) -> usize {
     let bare = without_slash(directory);
     if refusals::path::path_bad(bare) {
-        words::about(
+        messages::about(
             directory,
             b"no directory of the archive: give it from the archive's top, as `sky/north`, and without control bytes",
         );
@@ -87,11 +87,11 @@ fn put_directory(directory: &[u8], directories: &mut [u8], used: usize) -> usize
     }
     let n = bare.len();
     if used >= directories.len() {
-        words::wrong(b"the directories have over 65,536 bytes together");
+        messages::wrong(b"the directories have over 65,536 bytes together");
         return usize::MAX;
     }
     if directories.len() - used <= n {
-        words::wrong(b"the directories have over 65,536 bytes together");
+        messages::wrong(b"the directories have over 65,536 bytes together");
         return usize::MAX;
     }
     bytes::copy(bare, &mut directories[used..]);
@@ -107,7 +107,7 @@ fn add_directory(i: usize, directories: &mut [u8], used: usize) -> usize {
     let mut directory = io::buffer();
     let n = os::arg(i, &mut directory);
     if os::errno() != 0 {
-        words::wrong(b"the directory after `--in` is missing or too long");
+        messages::wrong(b"the directory after `--in` is missing or too long");
         return usize::MAX;
     }
     put_directory(&directory[..n], directories, used)
@@ -143,7 +143,7 @@ fn take_file(
 {
     let k = g.files;
     if k >= file_ends.len() || k >= directory_ends.len() || k >= names.len() {
-        words::wrong(b"over 256 rule files");
+        messages::wrong(b"over 256 rule files");
         return wrong(g);
     }
     let directory_end = add_directory(directory, directories, g.directory_bytes);
@@ -201,7 +201,7 @@ fn take_next(
         );
     }
     if n - i < 3 || arguments::is_option(i + 1) || arguments::is_option(i + 2) {
-        words::wrong(b"`--in` wants a directory and a rule file");
+        messages::wrong(b"`--in` wants a directory and a rule file");
         return wrong(g);
     }
     let after = go_on(g, i + 3, fold);
@@ -225,7 +225,7 @@ fn is_unknown(i: usize) -> bool {
         return false;
     }
     if word[0] == b'-' && word[1] == b'-' {
-        words::about(
+        messages::about(
             &word[..n],
             b"an option that is not known (whichline --help)",
         );
@@ -267,7 +267,7 @@ fn not_none(g: Given) -> Given
     ensures { λ r. ⌜ SameFiles g r ⌝ }
 {
     if g.right && g.files == 0 {
-        words::wrong(b"no rule file is given");
+        messages::wrong(b"no rule file is given");
         return wrong(g);
     }
     g

@@ -4,8 +4,8 @@ ghost use mathlib.Core.Path.{_≡_};
 ghost use lib.ListN.{length};
 ghost use Rattle.whichline.specs.Listing.{nothingRead, lineEnd, foundLine, ended as endedLine, unended as unendedLine, looked};
 ghost use Rattle.whichline.specs.Bounds.{AtFront};
+use crate::messages;
 use crate::reading;
-use crate::words;
 use libc::STDIN_FILENO;
 
 const NEWLINE: u8 = 10;
@@ -155,7 +155,7 @@ fn move_front(buf: &mut [u8], start: usize, have: usize) -> usize
 fn unreadable() -> Unread
     ensures { λ r. ⌜ (r .start ≡ 0) × (r .have ≡ 0) ⌝ }
 {
-    words::failed(b"standard input");
+    messages::failed(b"standard input");
     Unread {
         start: 0,
         have: 0,

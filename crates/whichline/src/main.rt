@@ -6,8 +6,8 @@ mod buffers;
 mod fields;
 mod given;
 mod listing;
+mod messages;
 mod reading;
-mod words;
 mod written;
 
 use crate::arguments::Asked;
@@ -27,7 +27,7 @@ fn wants_help() -> bool {
 
 fn main() {
     if wants_help() {
-        words::help();
+        messages::help();
         return;
     }
     let mut name = io::buffer();
@@ -35,7 +35,7 @@ fn main() {
     match asked {
         Asked::Ignore => answers::run(false, &name, 2),
         Asked::Attribute(n) => run_attribute(&name, n),
-        Asked::Wrong => words::wrong(
+        Asked::Wrong => messages::wrong(
             b"say `ignore`, or `attribute` and its name, and then the rule files",
         ),
     }

@@ -1,6 +1,6 @@
 // Reading files and standard input.
 ghost use Rattle.whichline.specs.Bounds.{WithinOrFailed, BehindOrFailed};
-use crate::words;
+use crate::messages;
 
 // Reads once into `part` and answers how many bytes came, 0 at the end; the largest number where the read failed.
 pub fn read_some(fd: i32, part: &mut [u8]) -> usize
@@ -38,12 +38,12 @@ pub fn read_file(name: &[u8], buf: &mut [u8], used: usize) -> usize
 {
     let fd = os::open_read(name);
     if fd < 0 {
-        words::failed(name);
+        messages::failed(name);
         return usize::MAX;
     }
     let end = read_behind(fd, buf, used);
     if end > buf.len() {
-        words::failed(name);
+        messages::failed(name);
     }
     libc::close(fd);
     end

@@ -3,12 +3,12 @@ ghost use Rattle.whichline.specs.Places.{Onward, AfterRefusal, AfterIgno
 use crate::fields::append;
 use crate::fields::append_field;
 use crate::fields::append_number;
-use crate::words;
+use crate::messages;
 use attributelines::State;
 use questions::AttributeAnswer;
-use questions::Decided;
+use questions::DecidedEntry;
+use questions::DecidedState;
 use questions::IgnoreAnswer;
-use questions::Spoken;
 use rulefiles::Place;
 
 // Puts the name of the rule file that argument `i` names.
@@ -51,7 +51,7 @@ fn append_refusal(out: &mut [u8], at: usize, number: u8) -> usize
     let a = append(out, at, b"refused ");
     let b = append_number(out, a, number as u64);
     let c = append(out, b, b": ");
-    words::reason(number, out, c)
+    messages::reason(number, out, c)
 }
 
 // Puts the verdict and the entry that it is about. An entry above the path is a directory; the path is as the listing has it.
@@ -59,7 +59,7 @@ fn append_decided(
     out: &mut [u8],
     at: usize,
     verdict: &[u8],
-    d: Decided,
+    d: DecidedEntry,
     line: &[u8],
     numbers: &[usize],
     names: &[usize],
@@ -90,7 +90,7 @@ pub fn append_ignore(
     ensures { λ r. ⌜ AfterIgnore (now (out .entry)) at answer r ⌝ }
 {
     match answer {
-        IgnoreAnswer::Nothing => append(out, at, b"nothing"),
+        IgnoreAnswer::Undecided => append(out, at, b"nothing"),
         IgnoreAnswer::Ignored(d) => append_decided(out, at, b"ignored", d, line, numbers, names),
         IgnoreAnswer::Reincluded(d) => append_decided(
             out,
@@ -132,10 +132,10 @@ fn append_state(out: &mut [u8], at: usize, state: State, rules: &[u8]) -> usize
 }
 
 // Puts the state; the entry is the path itself.
-fn append_spoken(
+fn append_decided_state(
     out: &mut [u8],
     at: usize,
-    s: Spoken,
+    s: DecidedState,
     line: &[u8],
     rules: &[u8],
     numbers: &[usize],
@@ -164,8 +164,16 @@ pub fn append_attribute(
     ensures { λ r. ⌜ AfterAttribute (now (out .entry)) at answer r ⌝ }
 {
     match answer {
-        AttributeAnswer::Nothing => append(out, at, b"nothing"),
-        AttributeAnswer::Said(s) => append_spoken(out, at, s, line, rules, numbers, names),
+        AttributeAnswer::Undecided => append(out, at, b"nothing"),
+        AttributeAnswer::Decided(s) => append_decided_state(
+            out,
+            at,
+            s,
+            line,
+            rules,
+            numbers,
+            names,
+        ),
         AttributeAnswer::Refused(n) => append_refusal(out, at, n),
     }
 }

@@ -1,4 +1,4 @@
--- Each answer of the matcher means what specs/Answers.antt says, and a call has one answer.
+-- Each answer of the matcher is as specs/Answers.antt has it, and a call has one answer.
 use mathlib.Core.Path.{_≡_, refl, sym, ap, subst, _∙_}
 use mathlib.Core.Bool.{Bool, true, false}
 use mathlib.Core.List.{List}
@@ -6,12 +6,12 @@ use mathlib.Core.Option.{Option, none, some}
 use Prim.Native.Nat.{ℕ}
 use native.Mathlib.Omega.{arith}
 use Rattle.refusals.specs.Refusals.{Lowest, Accepted, MatcherRefuses}
-use Rattle.refusals.proofs.Says.{said-false}
+use Rattle.bytestrings.proofs.BoolLaws.{not-if-false}
 use Rattle.refusals.proofs.LowestLaws.{lowest-one, lowest-refuses}
 use Rattle.wildmatch.specs.Patterns.{brokenAt}
 use Rattle.wildmatch.specs.Sharing.{Matches}
-use Rattle.wildmatch.specs.Test.{matchesTest}
-use Rattle.wildmatch.specs.Meaning.{test-decides}
+use Rattle.wildmatch.specs.MatchTest.{matchesTest}
+use Rattle.wildmatch.proofs.Meaning.{test-decides}
 use Rattle.wildmatch.specs.Answers.{modeOf, MatchDecided, Due, Given, Answered, codeOf, valuesOf, readingOf}
 use Rattle.wildmatch.proofs.BrokenLaws.{broken-unmatched}
 use Rattle.wildmatch.specs.declared.Mode.{Mode}
@@ -99,7 +99,7 @@ module _ (p t : List ℕ) (f : ℕ) where
     pub gives-unmatched : (m : Mode) (b : Bool) (r : Reading) → m ≡ modeOf f → MatchDecided m p t b → b ≡ false → r ≡ readingOf (brokenAt p) → r ≡ ReadUnbroken
         → Given p t f Unmatched
     unfolding Given Due
-    gives-unmatched m b r e d h q u = (a, (read-unbroken (brokenAt p) (sym q ∙ u), λ w. said-false (d .means) h (subst (λ (k : Mode). Matches k p t) (sym e) w)))
+    gives-unmatched m b r e d h q u = (a, (read-unbroken (brokenAt p) (sym q ∙ u), λ w. not-if-false (d .means) h (subst (λ (k : Mode). Matches k p t) (sym e) w)))
 
   -- two engines that keep this contract agree on every pattern, text and flags, so in all four modes
   pub answered-once : (a b : Answer) → Answered p t f a → Answered p t f b → a ≡ b

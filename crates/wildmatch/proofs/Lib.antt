@@ -1,5 +1,4 @@
 -- Laws that the proofs of several functions use.
-pub mod Parts
 pub mod RunLaws
 pub mod ItemLaws
 pub mod ReadLaws
@@ -11,7 +10,10 @@ pub mod MatcherLaws
 pub mod BrokenLaws
 pub mod AnswerLaws
 pub mod SkipLaws
-pub mod WayLaws
+pub mod RunKindLaws
 pub mod ReachLaws
-pub mod EndLaws
-pub mod FrontLaws
+pub mod LastByteLaws
+pub mod FirstByteLaws
+-- Theorems: the test decides the relation; the frames hold.
+pub mod Meaning
+pub mod FramesHold

@@ -9,14 +9,15 @@ use lib.Dec.{eqb}
 use lib.ListN.{length, drop, getD, length-drop}
 use lib.Seq.{drop-cons}
 use borrow.Author.Count.{below-more}
-use Rattle.classes.specs.Letters.{folded}
+use Rattle.bytestrings.specs.Text.{char}
+use Rattle.bytestrings.specs.Letters.{folded}
 use Rattle.wildmatch.proofs.ItemLaws.{literal-read}
 use Rattle.wildmatch.proofs.TailLaws.{tail-one, tail-nil}
 use Rattle.wildmatch.proofs.SegmentLaws.{first, mismatch}
-use Rattle.refusals.proofs.Order.{before-or-not}
+use Rattle.bytestrings.proofs.OrderLaws.{before-or-not}
 use Rattle.wildmatch.specs.Patterns.{literal}
 use Rattle.wildmatch.specs.Sharing.{inside, accepts}
-use Rattle.wildmatch.specs.Outcomes.{isLiteral, taken, Passed, Skipped}
+use Rattle.wildmatch.specs.inner.Outcomes.{isLiteral, taken, Passed, Skipped}
 use Rattle.wildmatch.specs.declared.Mode.{Mode}
 
 module _ (m : Mode) (P : ℕ → Type 0) (t : List ℕ) (k : ℕ) where
@@ -55,7 +56,7 @@ skipped-literal m (c ∷ p) t k n e l h =
     passed-of m _ t k _ n h (λ j d f. tail-one m false c p (literal c) 1 (drop j t) (literal-read false c p l) refl ∙ rw (drop-cons t j 0 d, f) refl)
 
 -- a pattern whose first item is no run matches where that accepts the byte
-pub skipped-item : (m : Mode) (p t : List ℕ) (k n : ℕ) → (length p ≡ 0 → ⊥) → (getD p 0 0 ≡ 42 → ⊥) → Passed m (λ j. taken m p (getD t j 0) ≡ 0) t k n → Skipped m p t k n
+pub skipped-item : (m : Mode) (p t : List ℕ) (k n : ℕ) → (length p ≡ 0 → ⊥) → (getD p 0 0 ≡ char "*" → ⊥) → Passed m (λ j. taken m p (getD t j 0) ≡ 0) t k n → Skipped m p t k n
 unfolding Skipped
 skipped-item m p t k n e s h =
     passed-of m _ t k _ n h (λ j d f. mismatch m false p (drop j t) (omega (arith, positive)) (rw length-drop (omega arith)) s (sym f ∙ ap (taken m p) (sym (first j t))))

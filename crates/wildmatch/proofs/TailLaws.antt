@@ -9,14 +9,40 @@ use native.Mathlib.Omega.{arith}
 use lib.Dec.{eqb, leb}
 use lib.ListN.{length, drop, getD}
 use borrow.Author.Tests.{eqb-true, ne-eqb}
+use Rattle.bytestrings.specs.Text.{char}
 use Rattle.classes.specs.Members.{Class, readClass}
-use Rattle.classes.proofs.LetterLaws.{folded-slash}
+use Rattle.bytestrings.proofs.LetterLaws.{folded-slash}
 use Rattle.wildmatch.proofs.ReadLaws.{single, Sized, item-sized, by-cases, items-step}
-use Rattle.wildmatch.specs.Patterns.{Reach, within, crossing, crossing-slash, Item, literal, any-byte, one-of, run, First, broken, item, stars, startsSlash, componentEnds, crosses, reachOf, readRun, readEscaped, readBracket, readItem, andItem, itemsFrom}
+use Rattle.wildmatch.specs.Patterns.{
+  Reach,
+  within,
+  crossing,
+  crossing-slash,
+  Item,
+  literal,
+  any-byte,
+  one-of,
+  run,
+  First,
+  broken,
+  item,
+  stars,
+  startsSlash,
+  componentEnds,
+  crosses,
+  reachOf,
+  readRun,
+  readEscaped,
+  readBracket,
+  readItem,
+  andItem,
+  itemsFrom,
+}
 use Rattle.wildmatch.specs.Sharing.{inside, accepts}
-use Rattle.classes.proofs.TableLaws.{and-split}
-use Rattle.wildmatch.specs.Test.{oneThen, runThen, passes, itemThen, vanish, isEmpty, sharesTest, sharesOf, tailMatches}
-use Rattle.wildmatch.specs.Outcomes.{afterAt, nearThen, slashThen}
+use Rattle.bytestrings.proofs.BoolLaws.{and-split}
+use Rattle.wildmatch.specs.MatchTest.{oneThen, runThen, passes, itemThen, vanish, sharesTest, sharesOf, tailMatches}
+use Rattle.bytestrings.specs.Bytes.{isEmpty}
+use Rattle.wildmatch.specs.inner.Outcomes.{afterAt, withinThen, slashThen}
 use Rattle.wildmatch.specs.declared.Mode.{Mode}
 
 -- nothing matches where nothing follows
@@ -76,12 +102,12 @@ escaped-one : (p : List ℕ) → One (readEscaped p)
 escaped-one [] = tt
 escaped-one (y ∷ p) = refl
 
-pub item-one : (after : Bool) (x : ℕ) (p : List ℕ) → (x ≡ 42 → ⊥) → (readItem after x p ≡ readItem false x p) × One (readItem after x p)
+pub item-one : (after : Bool) (x : ℕ) (p : List ℕ) → (x ≡ char "*" → ⊥) → (readItem after x p ≡ readItem false x p) × One (readItem after x p)
 unfolding readItem
-item-one after x p h = rw (ne-eqb x 42 h) (
+item-one after x p h = rw (ne-eqb x (char "*") h) (
   refl,
-  by-cases One (eqb x 92) _ _ (λ e. escaped-one p)
-      (λ e. by-cases One (eqb x 63) _ _ (λ e. refl) (λ e. by-cases One (eqb x 91) _ _ (λ e. bracket-one (readClass p)) (λ e. refl))),
+  by-cases One (eqb x (char "\\")) _ _ (λ e. escaped-one p)
+      (λ e. by-cases One (eqb x (char "?")) _ _ (λ e. refl) (λ e. by-cases One (eqb x (char "[")) _ _ (λ e. bracket-one (readClass p)) (λ e. refl))),
 )
 
 pub tail-one : (m : Mode) (after : Bool) (x : ℕ) (p : List ℕ) (it : Item) (n : ℕ) (t : List ℕ) → readItem after x p ≡ item it n → single it ≡ true
@@ -111,12 +137,12 @@ run-stays m crossing-slash (inr h) jt = absurd (h refl)
 pub run-same : (a b : ℕ → Bool) (f g : List ℕ → Bool) → ((x : ℕ) → a x ≡ b x) → ((t : List ℕ) → f t ≡ g t) → (t : List ℕ) → runThen a f t ≡ runThen b g t
 run-same a b f g h k t = ap₂ (λ c d. runThen c d t) (fun-ext h) (fun-ext k)
 
-read-star : (after : Bool) (x : ℕ) (q : List ℕ) → x ≡ 42 → readItem after x q ≡ item (run (reachOf after (stars (x ∷ q)) (drop (stars (x ∷ q)) (x ∷ q)))) (stars (x ∷ q))
+read-star : (after : Bool) (x : ℕ) (q : List ℕ) → x ≡ char "*" → readItem after x q ≡ item (run (reachOf after (stars (x ∷ q)) (drop (stars (x ∷ q)) (x ∷ q)))) (stars (x ∷ q))
 unfolding readItem readRun
 read-star after x q e = subst (λ (k : ℕ). readItem after k q ≡ item (run (reachOf after (stars (k ∷ q)) (drop (stars (k ∷ q)) (k ∷ q)))) (stars (k ∷ q))) (sym e) refl
 
--- the run at the front of p, as it is read
-run-step : (m : Mode) (after : Bool) (p : List ℕ) (r : Reach) (t : List ℕ) → 0 < length p → getD p 0 0 ≡ 42 → reachOf after (stars p) (drop (stars p) p) ≡ r → Stays m (run r)
+-- the run at the start of p, as it is read
+run-step : (m : Mode) (after : Bool) (p : List ℕ) (r : Reach) (t : List ℕ) → 0 < length p → getD p 0 0 ≡ char "*" → reachOf after (stars p) (drop (stars p) p) ≡ r → Stays m (run r)
     → tailMatches m after p t ≡ runThen (passes m r) (tailMatches m false (drop (stars p) p)) t
 run-step m after [] r t l e q h = absurd (omega arith)
 run-step m after (x ∷ p) r t l e q h =
@@ -141,14 +167,14 @@ crossing-not-slash : crossing ≡ crossing-slash → ⊥
 crossing-not-slash e = let z : _≡_ {A = ℕ} 0 1 = cc in omega arith
 
 -- without path mode, or where it does not cross, a run takes what is inside
-pub tail-near : (m : Mode) (after : Bool) (p : List ℕ) (t : List ℕ) → 0 < length p → getD p 0 0 ≡ 42 → (m .path ≡ false) ⊎ (crosses after (stars p) (drop (stars p) p) ≡ false)
-    → tailMatches m after p t ≡ nearThen m (drop (stars p) p) t
-unfolding nearThen
-tail-near m after p t l e (inl h) =
+pub tail-within : (m : Mode) (after : Bool) (p : List ℕ) (t : List ℕ) → 0 < length p → getD p 0 0 ≡ char "*" → (m .path ≡ false) ⊎ (crosses after (stars p) (drop (stars p) p) ≡ false)
+    → tailMatches m after p t ≡ withinThen m (drop (stars p) p) t
+unfolding withinThen
+tail-within m after p t l e (inl h) =
     let r = reachOf after (stars p) (drop (stars p) p) in
     run-step m after p r t l e refl (run-stays m r (inl h))
     ∙ run-same (passes m r) (inside m) (tailMatches m false (drop (stars p) p)) (tailMatches m false (drop (stars p) p)) (λ x. plain-passes m r x h) (λ u. refl) t
-tail-near m after p t l e (inr h) = run-step m after p within t l e (read-within after (stars p) (drop (stars p) p) h) (run-stays m within (inr within-not-slash))
+tail-within m after p t l e (inr h) = run-step m after p within t l e (read-within after (stars p) (drop (stars p) p) h) (run-stays m within (inr within-not-slash))
 
 run-takes-all : (t : List ℕ) → runThen (λ x. true) isEmpty t ≡ true
 run-takes-all [] = refl
@@ -163,14 +189,14 @@ unfolding reachOf
 read-slash after n p h s = rw (h, s) refl
 
 -- a crossing run at the end takes all
-pub tail-all : (m : Mode) (after : Bool) (p : List ℕ) (t : List ℕ) → 0 < length p → getD p 0 0 ≡ 42 → crosses after (stars p) (drop (stars p) p) ≡ true → drop (stars p) p ≡ []
+pub tail-all : (m : Mode) (after : Bool) (p : List ℕ) (t : List ℕ) → 0 < length p → getD p 0 0 ≡ char "*" → crosses after (stars p) (drop (stars p) p) ≡ true → drop (stars p) p ≡ []
     → tailMatches m after p t ≡ true
 unfolding startsSlash
 tail-all m after p t l e h q =
     run-step m after p crossing t l e (read-crossing after (stars p) (drop (stars p) p) h (rw q refl)) (run-stays m crossing (inr crossing-not-slash))
     ∙ rw q (run-same (λ x. true) (λ x. true) (tailMatches m false []) isEmpty (λ x. refl) (λ u. tail-nil m false u) t ∙ run-takes-all t)
 
-slash-accepts : (m : Mode) (x : ℕ) → accepts m (literal 47) x ≡ eqb x 47
+slash-accepts : (m : Mode) (x : ℕ) → accepts m (literal (char "/")) x ≡ eqb x (char "/")
 unfolding accepts
 slash-accepts m x = folded-slash (m .fold) x
 
@@ -178,60 +204,69 @@ one-same : (a b : ℕ → Bool) (f g : List ℕ → Bool) → ((x : ℕ) → a x
 one-same a b f g h k t = ap₂ (λ c d. oneThen c d t) (fun-ext h) (fun-ext k)
 
 -- a literal `/`, however it is written
-slash-step : (m : Mode) (after : Bool) (x : ℕ) (q : List ℕ) (n : ℕ) (u : List ℕ) → readItem after x q ≡ item (literal 47) n → afterAt after (x ∷ q) n ≡ true
-    → tailMatches m after (x ∷ q) u ≡ oneThen (λ y. eqb y 47) (tailMatches m true (drop n (x ∷ q))) u
+slash-step : (m : Mode) (after : Bool) (x : ℕ) (q : List ℕ) (n : ℕ) (u : List ℕ) → readItem after x q ≡ item (literal (char "/")) n → afterAt after (x ∷ q) n ≡ true
+    → tailMatches m after (x ∷ q) u ≡ oneThen (λ y. eqb y (char "/")) (tailMatches m true (drop n (x ∷ q))) u
 slash-step m after x q n u e h =
-    tail-one m after x q (literal 47) n u e refl
-    ∙ one-same (accepts m (literal 47)) (λ y. eqb y 47) (tailMatches m (afterAt after (x ∷ q) n) (drop n (x ∷ q))) (tailMatches m true (drop n (x ∷ q))) (slash-accepts m) (λ w. ap (λ (b : Bool). tailMatches m b (drop n (x ∷ q)) w) h) u
+    tail-one m after x q (literal (char "/")) n u e refl
+    ∙ one-same (accepts m (literal (char "/"))) (λ y. eqb y (char "/")) (tailMatches m (afterAt after (x ∷ q) n) (drop n (x ∷ q))) (tailMatches m true (drop n (x ∷ q))) (slash-accepts m)
+    (λ w. ap (λ (b : Bool). tailMatches m b (drop n (x ∷ q)) w) h) u
 
 -- what follows a crossing run is the end, `/` or `\/`
-pub escaped-rest : (q : List ℕ) → componentEnds q ≡ true → startsSlash q ≡ false → (length q ≡ 0 → ⊥) → (s : List ℕ) × (q ≡ 92 ∷ 47 ∷ s)
+pub escaped-rest : (q : List ℕ) → componentEnds q ≡ true → startsSlash q ≡ false → (length q ≡ 0 → ⊥) → (s : List ℕ) × (q ≡ char "\\" ∷ char "/" ∷ s)
 unfolding componentEnds startsSlash
 escaped-rest [] h e n = absurd (n refl)
-escaped-rest (x ∷ []) h e n = absurd (false≢true (rw (e, and-false (eqb x 92)) at h))
-escaped-rest (x ∷ y ∷ q) h e n = let b = and-split (eqb x 92) (eqb y 47) (rw e at h) in (q, ap₂ (λ (a c : ℕ). a ∷ c ∷ q) (eqb-true x 92 (b .0)) (eqb-true y 47 (b .1)))
+escaped-rest (x ∷ []) h e n = absurd (false≢true (rw (e, and-false (eqb x (char "\\"))) at h))
+escaped-rest (x ∷ y ∷ q) h e n = let b = and-split (eqb x (char "\\")) (eqb y (char "/")) (rw e at h) in
+    (q, ap₂ (λ (a c : ℕ). a ∷ c ∷ q) (eqb-true x (char "\\") (b .0)) (eqb-true y (char "/") (b .1)))
 
-slash-rest : (q : List ℕ) → startsSlash q ≡ true → (s : List ℕ) × (q ≡ 47 ∷ s)
+slash-rest : (q : List ℕ) → startsSlash q ≡ true → (s : List ℕ) × (q ≡ char "/" ∷ s)
 unfolding startsSlash
 slash-rest [] h = absurd (false≢true h)
-slash-rest (x ∷ q) h = (q, ap (λ (a : ℕ). a ∷ q) (eqb-true x 47 h))
+slash-rest (x ∷ q) h = (q, ap (λ (a : ℕ). a ∷ q) (eqb-true x (char "/") h))
 
 pub crosses-ends : (after : Bool) (n : ℕ) (q : List ℕ) → crosses after n q ≡ true → (after ≡ true) × (componentEnds q ≡ true)
 unfolding crosses
 crosses-ends true n q h = (refl, and-split (leb 2 n) (componentEnds q) h .1)
 crosses-ends false n q h = absurd (false≢true h)
 
-escaped-step : (m : Mode) (s u : List ℕ) → tailMatches m false (92 ∷ 47 ∷ s) u ≡ oneThen (λ x. eqb x 47) (tailMatches m true s) u
+escaped-step : (m : Mode) (s u : List ℕ) → tailMatches m false (char "\\" ∷ char "/" ∷ s) u ≡ oneThen (λ x. eqb x (char "/")) (tailMatches m true s) u
 unfolding readItem afterAt
-escaped-step m s u = slash-step m false 92 (47 ∷ s) 2 u refl refl
+escaped-step m s u = slash-step m false (char "\\") (char "/" ∷ s) 2 u refl refl
 
 -- a crossing run before `\/`
-pub tail-escaped : (m : Mode) (after : Bool) (p : List ℕ) (t : List ℕ) → 0 < length p → getD p 0 0 ≡ 42 → crosses after (stars p) (drop (stars p) p) ≡ true → startsSlash (drop (stars p) p) ≡ false
+pub tail-escaped : (m : Mode) (after : Bool) (p : List ℕ) (t : List ℕ) → 0 < length p → getD p 0 0 ≡ char "*" → crosses after (stars p) (drop (stars p) p) ≡ true
+    → startsSlash (drop (stars p) p) ≡ false
     → (length (drop (stars p) p) ≡ 0 → ⊥) → tailMatches m after p t ≡ slashThen m false (drop 2 (drop (stars p) p)) t
 unfolding slashThen
 tail-escaped m after p t l e h s n =
     run-step m after p crossing t l e (read-crossing after (stars p) (drop (stars p) p) h s) (run-stays m crossing (inr crossing-not-slash))
     ∙ go (drop (stars p) p) (escaped-rest (drop (stars p) p) (crosses-ends after (stars p) (drop (stars p) p) h .1) s n)
   where
-    go : (q : List ℕ) → (s : List ℕ) × (q ≡ 92 ∷ 47 ∷ s) → runThen (λ x. true) (tailMatches m false q) t ≡ runThen (λ x. true) (oneThen (λ x. eqb x 47) (tailMatches m true (drop 2 q))) t
-    go q k = rw (k .1) (run-same (λ x. true) (λ x. true) (tailMatches m false (92 ∷ 47 ∷ k .0)) (oneThen (λ x. eqb x 47) (tailMatches m true (k .0))) (λ x. refl) (escaped-step m (k .0)) t)
+    go : (q : List ℕ) → (s : List ℕ) × (q ≡ char "\\" ∷ char "/" ∷ s)
+        → runThen (λ x. true) (tailMatches m false q) t ≡ runThen (λ x. true) (oneThen (λ x. eqb x (char "/")) (tailMatches m true (drop 2 q))) t
+    go q k =
+        rw (k .1) (run-same (λ x. true) (λ x. true) (tailMatches m false (char "\\" ∷ char "/" ∷ k .0)) (oneThen (λ x. eqb x (char "/")) (tailMatches m true (k .0))) (λ x. refl)
+        (escaped-step m (k .0)) t)
 
 -- a crossing run and its slash, which may take nothing together
 vanish-step : (m : Mode) (o : Option (List Item)) (t : List ℕ) → m .path ≡ true
-    → sharesOf m (andItem (run crossing-slash) (andItem (literal 47) o)) t ≡ (sharesOf m o t || runThen (λ x. true) (oneThen (λ x. eqb x 47) (sharesOf m o)) t)
-vanish-step m none t h = sym (run-same (λ x. true) (λ x. true) (oneThen (λ x. eqb x 47) (λ u. false)) (λ u. false) (λ x. refl) (λ u. one-none (λ x. eqb x 47) u) t ∙ run-none (λ x. true) t)
+    → sharesOf m (andItem (run crossing-slash) (andItem (literal (char "/")) o)) t ≡ (sharesOf m o t || runThen (λ x. true) (oneThen (λ x. eqb x (char "/")) (sharesOf m o)) t)
+vanish-step m none t h =
+    sym (run-same (λ x. true) (λ x. true) (oneThen (λ x. eqb x (char "/")) (λ u. false)) (λ u. false) (λ x. refl) (λ u. one-none (λ x. eqb x (char "/")) u) t ∙ run-none (λ x. true) t)
 vanish-step m (some its) t h =
-    ap (λ (b : Bool). runThen (λ x. true) (sharesTest m (literal 47 ∷ its)) t || (b && true) && sharesTest m its t) h
-    ∙ or-comm (runThen (λ x. true) (sharesTest m (literal 47 ∷ its)) t) (sharesTest m its t)
+    ap (λ (b : Bool). runThen (λ x. true) (sharesTest m (literal (char "/") ∷ its)) t || (b && true) && sharesTest m its t) h
+    ∙ or-comm (runThen (λ x. true) (sharesTest m (literal (char "/") ∷ its)) t) (sharesTest m its t)
     ∙ ap (λ (b : Bool). sharesTest m its t || b)
-    (run-same (λ x. true) (λ x. true) (sharesTest m (literal 47 ∷ its)) (oneThen (λ x. eqb x 47) (sharesTest m its)) (λ x. refl)
-    (λ u. step-of m (literal 47) (some its) u (λ jt. refl) ∙ one-same (accepts m (literal 47)) (λ x. eqb x 47) (sharesTest m its) (sharesTest m its) (slash-accepts m) (λ w. refl) u) t)
+    (run-same (λ x. true) (λ x. true) (sharesTest m (literal (char "/") ∷ its)) (oneThen (λ x. eqb x (char "/")) (sharesTest m its)) (λ x. refl)
+    (λ u. step-of m (literal (char "/")) (some its) u (λ jt. refl)
+    ∙ one-same (accepts m (literal (char "/"))) (λ x. eqb x (char "/")) (sharesTest m its) (sharesTest m its) (slash-accepts m) (λ w. refl) u) t)
 
-slash-items : (s : List ℕ) → itemsFrom (47 ∷ s) 0 false ≡ andItem (literal 47) (itemsFrom s 0 true)
+slash-items : (s : List ℕ) → itemsFrom (char "/" ∷ s) 0 false ≡ andItem (literal (char "/")) (itemsFrom s 0 true)
 unfolding readItem afterAt
-slash-items s = items-step false 47 s (literal 47) 1 refl
+slash-items s = items-step false (char "/") s (literal (char "/")) 1 refl
 
-pub tail-slash : (m : Mode) (after : Bool) (p : List ℕ) (t : List ℕ) → m .path ≡ true → 0 < length p → getD p 0 0 ≡ 42 → crosses after (stars p) (drop (stars p) p) ≡ true → startsSlash (drop (stars p) p) ≡ true
+pub tail-slash : (m : Mode) (after : Bool) (p : List ℕ) (t : List ℕ) → m .path ≡ true → 0 < length p → getD p 0 0 ≡ char "*" → crosses after (stars p) (drop (stars p) p) ≡ true
+    → startsSlash (drop (stars p) p) ≡ true
     → tailMatches m after p t ≡ slashThen m true (drop 1 (drop (stars p) p)) t
 unfolding slashThen tailMatches
 tail-slash m after [] t c l e h s = absurd (omega arith)
@@ -239,6 +274,7 @@ tail-slash m after (x ∷ p) t c l e h s =
     let k = read-star after x p e ∙ ap (λ (r : Reach). item (run r) (stars (x ∷ p))) (read-slash after (stars (x ∷ p)) (drop (stars (x ∷ p)) (x ∷ p)) h s) in
     let b = subst (Sized after (x ∷ p)) k (item-sized after x p) .2 in
     let q = slash-rest (drop (stars (x ∷ p)) (x ∷ p)) s in
-    ap (λ o. sharesOf m o t) (items-step after x p (run crossing-slash) (stars (x ∷ p)) k ∙ ap₂ (λ l f. andItem (run crossing-slash) (itemsFrom l 0 f)) (q .1) b ∙ ap (andItem (run crossing-slash)) (slash-items (q .0)))
+    ap (λ o. sharesOf m o t) (items-step after x p (run crossing-slash) (stars (x ∷ p)) k ∙ ap₂ (λ l f. andItem (run crossing-slash) (itemsFrom l 0 f)) (q .1) b
+    ∙ ap (andItem (run crossing-slash)) (slash-items (q .0)))
     ∙ vanish-step m (itemsFrom (q .0) 0 true) t c
-    ∙ ap (λ (l : List ℕ). sharesOf m (itemsFrom l 0 true) t || runThen (λ y. true) (oneThen (λ y. eqb y 47) (λ u. sharesOf m (itemsFrom l 0 true) u)) t) (sym (ap (drop 1) (q .1)))
+    ∙ ap (λ (l : List ℕ). sharesOf m (itemsFrom l 0 true) t || runThen (λ y. true) (oneThen (λ y. eqb y (char "/")) (λ u. sharesOf m (itemsFrom l 0 true) u)) t) (sym (ap (drop 1) (q .1)))

@@ -9,7 +9,7 @@ use Rattle.refusals.specs.Flags.{flagOne, flagTwo}
 use Rattle.refusals.specs.Refusals.{Lowest, Accepted, MatcherRefuses}
 use Rattle.wildmatch.specs.Patterns.{brokenAt}
 use Rattle.wildmatch.specs.Sharing.{Matches}
-use Rattle.wildmatch.specs.Test.{matchesTest}
+use Rattle.wildmatch.specs.MatchTest.{matchesTest}
 use Rattle.wildmatch.specs.declared.Mode.{Mode}
 use Rattle.wildmatch.specs.declared.answer.Answer.{Answer}
 use Rattle.wildmatch.specs.declared.answer.Answer.the-variants.{Unmatched, Matched, Broken, Refused}
@@ -42,7 +42,7 @@ Given pattern text flags Matched = Accepted (MatcherRefuses pattern text flags) 
 Given pattern text flags (Broken place) = Accepted (MatcherRefuses pattern text flags) × Due (modeOf flags) pattern text (Broken place)
 Given pattern text flags (Refused n) = Lowest (MatcherRefuses pattern text flags) n
 
--- the answer is each of these exactly when it is given
+-- whatever a is: it is the answer exactly when it is given
 unfoldable pub Answered : List ℕ → List ℕ → ℕ → Answer → Type 0
 Answered pattern text flags answer = (a : Answer) → (answer ≡ a) ↔ Given pattern text flags a
 
@@ -61,7 +61,7 @@ valuesOf Matched = []
 valuesOf (Broken place) = place ∷ []
 valuesOf (Refused n) = []
 
--- what `broken_at` answers for the place that was found; no other definition names its type
+-- what `broken_at` answers for the place that was found
 unfoldable pub readingOf : Option ℕ → Reading
 readingOf none = ReadUnbroken
 readingOf (some place) = ReadBroken place

@@ -1,10 +1,8 @@
--- What a reader must believe, in document 01's order:
+-- What a reader must believe, in the paper's order:
 pub mod Patterns
 pub mod Sharing
-pub mod Test
+pub mod MatchTest
 pub mod Answers
--- Theorems about them: the test decides the relation; the frames hold.
-pub mod Meaning
 pub mod Frames
--- Inner definitions, which only the contracts of private functions cite:
-pub mod Outcomes
+-- Inner definitions, none of which a public contract cites:
+pub mod inner

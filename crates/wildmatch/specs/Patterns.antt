@@ -1,26 +1,28 @@
 -- Document 01, "Patterns": "A pattern is read left to right into items".
 use Prim.Native.Nat.{ℕ, zero, suc, pred}
-use mathlib.Core.Bool.{Bool, true, false, cond, _&&_, _||_}
+use mathlib.Core.Bool.{Bool, true, cond, _&&_, _||_}
 use mathlib.Core.List.{List, [], _∷_}
 use mathlib.Core.Option.{Option, none, some}
 use lib.Dec.{eqb, leb}
 use lib.ListN.{drop}
+use Rattle.bytestrings.specs.Text.{char}
+use Rattle.bytestrings.specs.Bytes.{firstIs}
 use Rattle.classes.specs.Members.{Class, readClass}
 
--- How far a star run reaches in path mode: within a component; or it "crosses"; or it crosses and an unescaped `/` follows.
+-- How far a star run reaches in path mode: within a component; or it *crosses*, 01's term; or it crosses and an unescaped `/` follows.
 pub data Reach : Type 0 where
   within : Reach
   crossing : Reach
   crossing-slash : Reach
 
--- an item: a literal byte, `?`, a class, or a star run
+-- an *item*, 01's term: a literal byte, `?`, a class, or a star run
 pub data Item : Type 0 where
   literal : ℕ → Item
   any-byte : Item
   one-of : Class → Item
   run : Reach → Item
 
--- what stands at the front of a pattern: the pattern is "broken" here, or an item and the number of bytes that it is written with
+-- what stands at the start of a pattern: the pattern is *broken* here, 01's term, or an item and the number of bytes that it is written with
 pub data First : Type 0 where
   broken : First
   item : Item → ℕ → First
@@ -28,20 +30,19 @@ pub data First : Type 0 where
 -- "A star run is a longest row of `*`": its length
 unfoldable pub stars : List ℕ → ℕ
 stars [] = 0
-stars (x ∷ p) = cond (eqb x 42) (suc (stars p)) 0
+stars (x ∷ p) = cond (eqb x (char "*")) (suc (stars p)) 0
 
 -- an unescaped `/` is next
 unfoldable pub startsSlash : List ℕ → Bool
-startsSlash [] = false
-startsSlash (x ∷ p) = eqb x 47
+startsSlash p = firstIs (char "/") p
 
 -- "followed by the end, `/` or `\/`"
 unfoldable pub componentEnds : List ℕ → Bool
 componentEnds [] = true
-componentEnds (x ∷ p) = eqb x 47 || eqb x 92 && startsSlash p
+componentEnds (x ∷ p) = eqb x (char "/") || eqb x (char "\\") && startsSlash p
 
--- "starts the pattern or follows a byte `/`, and is followed by the end, `/` or `\/`. Then it crosses": not one star, but
--- "any run of two or more" (document 02, R-2).
+-- "starts the pattern or follows a byte `/`, and is followed by the end, `/` or `\/`. Then it *crosses*". Where 01 has "exactly two stars" and "Three
+-- or more stars count as one star", 02's R-2 has "any run of two or more as it treats two".
 -- `after`: the run starts the pattern, or follows a byte `/`; n: how many stars; p: what follows them
 unfoldable pub crosses : Bool → ℕ → List ℕ → Bool
 crosses after n p = after && (leb 2 n && componentEnds p)
@@ -50,7 +51,7 @@ crosses after n p = after && (leb 2 n && componentEnds p)
 unfoldable pub reachOf : Bool → ℕ → List ℕ → Reach
 reachOf after n p = cond (crosses after n p) (cond (startsSlash p) crossing-slash crossing) within
 
--- the run at the front of a pattern
+-- the run at the start of a pattern
 unfoldable pub readRun : Bool → List ℕ → First
 readRun after p = item (run (reachOf after (stars p) (drop (stars p) p))) (stars p)
 
@@ -67,10 +68,10 @@ readBracket (some c) = item (one-of c) (suc (c .size))
 -- the item whose first byte is x, with p after that byte. "Any other byte is literal."
 unfoldable pub readItem : Bool → ℕ → List ℕ → First
 readItem after x p =
-    cond (eqb x 92) (readEscaped p)
-    (cond (eqb x 63) (item any-byte 1)
-    (cond (eqb x 42) (readRun after (x ∷ p))
-    (cond (eqb x 91) (readBracket (readClass p))
+    cond (eqb x (char "\\")) (readEscaped p)
+    (cond (eqb x (char "?")) (item any-byte 1)
+    (cond (eqb x (char "*")) (readRun after (x ∷ p))
+    (cond (eqb x (char "[")) (readBracket (readClass p))
     (item (literal x) 1))))
 
 -- one item more; a broken rest stays broken
@@ -87,8 +88,8 @@ itemsAfter (item it n) rest = andItem it (rest (pred n))
 -- `after`: the pattern starts here, or the byte before is `/`
 unfoldable pub itemsFrom : List ℕ → ℕ → Bool → Option (List Item)
 itemsFrom [] k after = some []
-itemsFrom (x ∷ p) zero after = itemsAfter (readItem after x p) (λ n. itemsFrom p n (eqb x 47))
-itemsFrom (x ∷ p) (suc k) after = itemsFrom p k (eqb x 47)
+itemsFrom (x ∷ p) zero after = itemsAfter (readItem after x p) (λ n. itemsFrom p n (eqb x (char "/")))
+itemsFrom (x ∷ p) (suc k) after = itemsFrom p k (eqb x (char "/"))
 
 -- the items of a whole pattern
 abbrev pub items : List ℕ → Option (List Item)
@@ -97,21 +98,21 @@ items p = itemsFrom p 0 true
 -- Document 02, R-14: "the place in the pattern of the byte where the first broken item begins". The items are read as above.
 
 -- a place counted from one byte before
-abbrev pub later : Option ℕ → Option ℕ
-later none = none
-later (some place) = some (suc place)
+abbrev pub onePlaceOn : Option ℕ → Option ℕ
+onePlaceOn none = none
+onePlaceOn (some place) = some (suc place)
 
 -- the item that begins here is broken, or the place is looked for after its n bytes, of which the first byte is passed already
 abbrev pub brokenAfter : First → (ℕ → Option ℕ) → Option ℕ
 brokenAfter broken rest = some 0
-brokenAfter (item it n) rest = later (rest (pred n))
+brokenAfter (item it n) rest = onePlaceOn (rest (pred n))
 
 -- the place, counted from 0, in a pattern of which the first k bytes belong to an item that was read; none: no item is broken.
 -- `after` as for `itemsFrom`
 unfoldable pub brokenFrom : List ℕ → ℕ → Bool → Option ℕ
 brokenFrom [] k after = none
-brokenFrom (x ∷ p) zero after = brokenAfter (readItem after x p) (λ n. brokenFrom p n (eqb x 47))
-brokenFrom (x ∷ p) (suc k) after = later (brokenFrom p k (eqb x 47))
+brokenFrom (x ∷ p) zero after = brokenAfter (readItem after x p) (λ n. brokenFrom p n (eqb x (char "/")))
+brokenFrom (x ∷ p) (suc k) after = onePlaceOn (brokenFrom p k (eqb x (char "/")))
 
 -- the place in a whole pattern
 abbrev pub brokenAt : List ℕ → Option ℕ

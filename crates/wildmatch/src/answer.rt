@@ -36,9 +36,9 @@ pub fn matches(pattern: &[u8], text: &[u8], mode: Mode) -> bool
 {
     match match_items(pattern, text, mode) {
         Outcome::Matched => true,
-        Outcome::Failed => false,
-        Outcome::FailedNear => false,
-        Outcome::FailedFar => false,
+        Outcome::NoMatch => false,
+        Outcome::AbortToStarStar => false,
+        Outcome::AbortAll => false,
     }
 }
 

@@ -5,7 +5,7 @@ ghost use Prim.Native.Nat.{_<_};
 ghost use lib.ListN.{length, getD};
 ghost use Rattle.wildmatch.specs.Patterns.{brokenAt};
 ghost use Rattle.wildmatch.specs.Answers.{readingOf};
-ghost use Rattle.wildmatch.specs.Outcomes.{mayBreak, firstSize};
+ghost use Rattle.wildmatch.specs.inner.Outcomes.{mayBreak, firstSize};
 use classes::class::class_size;
 
 // How reading a pattern ends: every item was read, or the first that is broken begins at a place, counted from 0.

@@ -2,16 +2,16 @@
 ghost use mathlib.Core.Path.{_≡_};
 ghost use mathlib.Core.Bool.{cond};
 ghost use lib.Dec.{eqb};
-ghost use Rattle.classes.specs.Letters.{folded};
+ghost use Rattle.bytestrings.specs.Letters.{folded};
 ghost use Rattle.wildmatch.specs.Sharing.{inside};
 ghost use Rattle.classes.specs.Members.{readClass};
 ghost use Rattle.wildmatch.specs.Patterns.{readBracket};
-ghost use Rattle.wildmatch.specs.Outcomes.{isLiteral, takenBy, taken};
+ghost use Rattle.wildmatch.specs.inner.Outcomes.{isLiteral, takenBy, taken};
 use crate::Mode;
+use bytestrings::letters::to_lower;
+use bytestrings::letters::to_upper;
 use classes::class::Tested;
 use classes::class::test_class;
-use classes::letters::to_lower;
-use classes::letters::to_upper;
 
 // Whether the literal c accepts the byte x.
 pub fn same(c: u8, x: u8, fold: bool) -> bool
@@ -28,7 +28,7 @@ pub fn is_inside(x: u8, m: Mode) -> bool
     ensures { λ r. ⌜ r ≡ inside m x ⌝ }
 {
     if m.path {
-        return x != 47;
+        return x != b'/';
     }
     true
 }
@@ -61,19 +61,19 @@ pub fn other_takes(p: &[u8], x: u8, m: Mode) -> usize
         return 0;
     }
     let c = p[0];
-    if c == 92 {
+    if c == b'\\' {
         if p.len() < 2 {
             return 0;
         }
         return sized(same(p[1], x, m.fold), 2);
     }
-    if c == 63 {
+    if c == b'?' {
         return sized(is_inside(x, m), 1);
     }
-    if c == 42 {
+    if c == b'*' {
         return 0;
     }
-    if c == 91 {
+    if c == b'[' {
         return class_takes(&p[1..], x, m);
     }
     sized(same(c, x, m.fold), 1)
@@ -83,16 +83,16 @@ pub fn other_takes(p: &[u8], x: u8, m: Mode) -> usize
 pub fn is_literal(c: u8) -> bool
     ensures { λ r. ⌜ r ≡ isLiteral c ⌝ }
 {
-    if c == 42 {
+    if c == b'*' {
         return false;
     }
-    if c == 63 {
+    if c == b'?' {
         return false;
     }
-    if c == 91 {
+    if c == b'[' {
         return false;
     }
-    c != 92
+    c != b'\\'
 }
 
 // How many bytes the first item of p is written with, where it is of one byte and accepts x; else 0.

@@ -1,24 +1,29 @@
 // The item matcher and the run matcher, which call each other.
+//
+// Why they answer more than yes or no: a pattern with many stars could be tried at every place for every star, and the time would grow without a useful
+// bound. So a part that fails also answers whether it would fail after a run before it, and that run is then given up at once. Only this bounds the work,
+// to about pattern times text; the answer does not depend on it. git's wildmatch has the same answers: no match, abort to the last `**`, abort all.
 ghost use mathlib.Core.Path.{_≡_};
 ghost use mathlib.Core.Bool.{true};
 ghost use Prim.Native.Nat.{_≤_};
 ghost use lib.ListN.{length};
-ghost use Rattle.wildmatch.specs.Test.{tailMatches};
-ghost use Rattle.wildmatch.specs.Outcomes.{afterAt, Says, SaysRun, slashThen, NextSlash, FirstPlace};
+ghost use Rattle.wildmatch.specs.MatchTest.{tailMatches};
+ghost use Rattle.wildmatch.specs.inner.Outcomes.{afterAt, Means, MeansRun, slashThen, NextSlash, FirstPlace};
 use crate::Mode;
 use crate::items::is_inside;
+use crate::runkind::RunKind;
+use crate::runkind::classify_run;
 use crate::segment::Stop;
 use crate::segment::match_segment;
 use crate::skip::skip_to;
-use crate::way::Way;
-use crate::way::read_way;
 
-// Matched; not here; nor after a run before it that stays in the component; nor after any run that can stand before it.
+// It matches; it does not match here; nor after a run before it that stays in the component, so that only a crossing run may try again; nor after any
+// run that can stand before it.
 pub enum Outcome {
     Matched,
-    Failed,
-    FailedNear,
-    FailedFar,
+    NoMatch,
+    AbortToStarStar,
+    AbortAll,
 }
 
 // Whether place i starts the pattern p or follows a byte `/`.
@@ -29,7 +34,7 @@ fn follows_slash(p: &[u8], i: usize) -> bool
     if i == 0 {
         return true;
     }
-    p[i - 1] == 47
+    p[i - 1] == b'/'
 }
 
 // The place after the next `/` of t from place k on; one past the text's end where there is none.
@@ -39,7 +44,7 @@ fn after_slash(t: &[u8], k: usize) -> usize
 {
     let mut j = k;
     while j < t.len() {
-        if t[j] == 47 {
+        if t[j] == b'/' {
             return j + 1;
         }
         j += 1;
@@ -60,7 +65,7 @@ fn first_place(t: &[u8], here: bool) -> usize
 // The pattern p, which is the whole one or follows a byte `/`, item by item. The segment from place a of p is tried at place k of t;
 // where a run within a component stands before it, it slides on, and the first place where it fits decides.
 pub fn match_items(p: &[u8], t: &[u8], m: Mode) -> Outcome
-    ensures { λ r. ⌜ Says m true (tailMatches m true (now (p .entry))) (now (t .entry)) r ⌝ }
+    ensures { λ r. ⌜ Means m true (tailMatches m true (now (p .entry))) (now (t .entry)) r ⌝ }
 {
     let mut a = 0;
     let mut k = 0;
@@ -68,25 +73,25 @@ pub fn match_items(p: &[u8], t: &[u8], m: Mode) -> Outcome
     loop {
         match match_segment(&p[a..], &t[k..], m) {
             Stop::Whole => return Outcome::Matched,
-            Stop::TooShort => return Outcome::FailedFar,
+            Stop::TooShort => return Outcome::AbortAll,
             Stop::Mismatch => {
                 if !slides {
-                    return Outcome::Failed;
+                    return Outcome::NoMatch;
                 }
                 if t.len() <= k {
-                    return Outcome::FailedFar;
+                    return Outcome::AbortAll;
                 }
                 if !is_inside(t[k], m) {
-                    return Outcome::FailedNear;
+                    return Outcome::AbortToStarStar;
                 }
                 k = skip_to(&p[a..], t, k + 1, m);
             }
             Stop::Run(i, j) => {
                 let at = a + i;
-                match read_way(&p[at..], m, follows_slash(p, at)) {
-                    Way::Within(n) => a = at + n,
-                    Way::All => return Outcome::Matched,
-                    Way::ToSlash(n, here) => {
+                match classify_run(&p[at..], m, follows_slash(p, at)) {
+                    RunKind::Within(n) => a = at + n,
+                    RunKind::All => return Outcome::Matched,
+                    RunKind::ToSlash(n, here) => {
                         return match_crossing(&p[at + n..], &t[k + j..], m, here);
                     }
                 }
@@ -99,7 +104,7 @@ pub fn match_items(p: &[u8], t: &[u8], m: Mode) -> Outcome
 
 // A run that crosses to after a `/`, or takes nothing where `here`, and then the pattern p.
 fn match_crossing(p: &[u8], t: &[u8], m: Mode, here: bool) -> Outcome
-    ensures { λ r. ⌜ SaysRun m true (slashThen m here (now (p .entry))) (now (t .entry)) r ⌝ }
+    ensures { λ r. ⌜ MeansRun m true (slashThen m here (now (p .entry))) (now (t .entry)) r ⌝ }
 {
     let mut k = first_place(t, here);
     while k <= t.len() {
@@ -107,13 +112,13 @@ fn match_crossing(p: &[u8], t: &[u8], m: Mode, here: bool) -> Outcome
             Outcome::Matched => {
                 return Outcome::Matched;
             }
-            Outcome::FailedFar => {
-                return Outcome::FailedFar;
+            Outcome::AbortAll => {
+                return Outcome::AbortAll;
             }
-            Outcome::Failed => {}
-            Outcome::FailedNear => {}
+            Outcome::NoMatch => {}
+            Outcome::AbortToStarStar => {}
         }
         k = after_slash(t, k);
     }
-    Outcome::FailedFar
+    Outcome::AbortAll
 }

@@ -8,7 +8,7 @@ pub fn star_count(p: &[u8]) -> usize
 {
     let mut i = 0;
     while i < p.len() {
-        if p[i] != 42 {
+        if p[i] != b'*' {
             return i;
         }
         i += 1;
@@ -23,7 +23,7 @@ pub fn starts_slash(p: &[u8]) -> bool
     if p.len() == 0 {
         return false;
     }
-    p[0] == 47
+    p[0] == b'/'
 }
 
 // Whether the end, `/` or `\/` is next.
@@ -34,10 +34,10 @@ pub fn component_ends(p: &[u8]) -> bool
         return true;
     }
     let x = p[0];
-    if x == 47 {
+    if x == b'/' {
         return true;
     }
-    if x == 92 {
+    if x == b'\\' {
         return starts_slash(&p[1..]);
     }
     false

@@ -1,5 +1,5 @@
 // A segment: the items of one byte up to the next run or the pattern's end.
-ghost use Rattle.wildmatch.specs.Outcomes.{Stops};
+ghost use Rattle.wildmatch.specs.inner.Outcomes.{Stops};
 use crate::Mode;
 use crate::items::item_takes;
 
@@ -19,7 +19,7 @@ pub fn match_segment(p: &[u8], t: &[u8], m: Mode) -> Stop
     let mut i = 0;
     let mut j = 0;
     while i < p.len() {
-        if p[i] == 42 {
+        if p[i] == b'*' {
             return Stop::Run(i, j);
         }
         if t.len() <= j {

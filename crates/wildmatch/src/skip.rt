@@ -4,8 +4,8 @@ ghost use mathlib.Core.Bool.{false};
 ghost use Prim.Native.Nat.{_≤_};
 ghost use lib.Dec.{eqb};
 ghost use lib.ListN.{length, getD};
-ghost use Rattle.classes.specs.Letters.{folded};
-ghost use Rattle.wildmatch.specs.Outcomes.{taken, Passed, Skipped};
+ghost use Rattle.bytestrings.specs.Letters.{folded};
+ghost use Rattle.wildmatch.specs.inner.Outcomes.{taken, Passed, Skipped};
 use crate::Mode;
 use crate::items::is_inside;
 use crate::items::is_literal;
@@ -77,7 +77,7 @@ pub fn skip_to(p: &[u8], t: &[u8], k: usize, m: Mode) -> usize
     if is_literal(c) {
         return skip_literal(c, t, k, m);
     }
-    if c == 42 {
+    if c == b'*' {
         return k;
     }
     skip_item(p, t, k, m)

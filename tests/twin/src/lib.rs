@@ -30,7 +30,7 @@ pub mod program;
 pub mod random;
 pub mod timing;
 
-// The matcher's own tests, by the C call or by the prober.
+// The matcher's own tests, by the C call or by the testcalls.
 pub mod boundary;
 pub mod broken;
 pub mod check;
@@ -42,9 +42,9 @@ pub mod sets;
 
 #[cfg(feature = "fidshore")]
 pub mod archive;
-#[cfg(feature = "prober")]
+#[cfg(feature = "testcalls")]
 pub mod names;
-#[cfg(feature = "prober")]
+#[cfg(feature = "testcalls")]
 pub mod probed;
 
 // What asks the C calls: how a pattern's reading and the questions grow.

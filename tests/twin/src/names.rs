@@ -1,9 +1,9 @@
-//! A class name by its number, and a byte: the prober's call against the twin,
+//! A class name by its number, and a byte: the testcalls's call against the twin,
 //! for the twelve and for numbers that are no names.
 use crate::class::{twelve, TWELVE};
 
 extern "C" {
-    fn prober_named(name: usize, byte: u8) -> u32;
+    fn testcalls_named(name: usize, byte: u8) -> u32;
 }
 
 /// Numbers from 12 on; of some a narrower number would be one of the twelve.
@@ -19,7 +19,7 @@ pub fn run() -> (u64, u64) {
         let has = TWELVE.get(number).map(|name| twelve(name.as_bytes()).expect("one of the twelve"));
         for byte in 0..=255u8 {
             let want = has.is_some_and(|has| has(byte)) as u32;
-            let got = unsafe { prober_named(number, byte) };
+            let got = unsafe { testcalls_named(number, byte) };
             cases += 1;
             listed += want as u64;
             if got != want {

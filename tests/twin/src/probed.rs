@@ -1,10 +1,10 @@
-//! The matcher by the prober: the code number, and the place where the pattern
+//! The matcher by the testcalls: the code number, and the place where the pattern
 //! is broken in a lent list of numbers.
 use crate::answer::Answer;
 use crate::matcher::Matcher;
 
 extern "C" {
-    fn prober_match(
+    fn testcalls_match(
         pattern: *const u8,
         pattern_len: usize,
         text: *const u8,
@@ -13,7 +13,7 @@ extern "C" {
         out: *mut usize,
         out_len: usize,
     ) -> u32;
-    fn prober_broken(pattern: *const u8, pattern_len: usize, out: *mut usize, out_len: usize) -> u32;
+    fn testcalls_broken(pattern: *const u8, pattern_len: usize, out: *mut usize, out_len: usize) -> u32;
 }
 
 /// What the list holds before a call. No place is so large.
@@ -47,17 +47,17 @@ impl Matcher for Probed {
 
     fn ask_bare(&self, pattern: &[u8], text: &[u8], flags: u64) -> Answer {
         told(2, |out, len| unsafe {
-            prober_match(pattern.as_ptr(), pattern.len(), text.as_ptr(), text.len(), flags, out, len)
+            testcalls_match(pattern.as_ptr(), pattern.len(), text.as_ptr(), text.len(), flags, out, len)
         })
     }
 
     fn ask_null(&self, flags: u64) -> Answer {
         let null = std::ptr::null();
-        told(2, |out, len| unsafe { prober_match(null, 0, null, 0, flags, out, len) })
+        told(2, |out, len| unsafe { testcalls_match(null, 0, null, 0, flags, out, len) })
     }
 
     fn broken_bare(&self, pattern: &[u8]) -> Option<usize> {
-        match told(1, |out, len| unsafe { prober_broken(pattern.as_ptr(), pattern.len(), out, len) }) {
+        match told(1, |out, len| unsafe { testcalls_broken(pattern.as_ptr(), pattern.len(), out, len) }) {
             Answer { code: 0 | 1, place } => place,
             _ => Some(WRONG), // no other code is an answer
         }

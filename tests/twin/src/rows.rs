@@ -6,8 +6,8 @@ use crate::matcher::Matcher;
 use crate::tables::{bytes, fields, rows};
 use crate::twin;
 
-const DOCUMENT_001: &str = include_str!("../../../crates/tables/data/document-001.tsv");
-const DOCUMENT_01: &str = include_str!("../../../crates/tables/data/document-01.tsv");
+const DOCUMENT_001: &str = include_str!("../../../crates/testtables/data/document-001.tsv");
+const DOCUMENT_01: &str = include_str!("../../../crates/testtables/data/document-01.tsv");
 /// The flags of the four columns.
 const COLUMNS: [u64; 4] = [1, 3, 0, 2];
 /// The rows of 001 whose pattern is broken, and the place, by document 01's

@@ -1,12 +1,12 @@
-//! The tables of documents 001 and 01 as `crates/tables` runs them: they are
+//! The tables of documents 001 and 01 as `crates/testtables` runs them: they are
 //! written once, in its data files, whose first lines say how. A row that cannot
 //! be read stops the program. Here are those of the two questions, and what those
 //! of the matcher (`rows.rs`) are read with too.
 use crate::reader::{Answer, Question};
 
 const QUESTIONS: [&str; 2] = [
-    include_str!("../../../crates/tables/data/ignore.tsv"),
-    include_str!("../../../crates/tables/data/attributes.tsv"),
+    include_str!("../../../crates/testtables/data/ignore.tsv"),
+    include_str!("../../../crates/testtables/data/attributes.tsv"),
 ];
 
 /// A row of one of the two questions, with the complete answer.

@@ -1,19 +1,19 @@
 -- `entries::bare_matches` meets its contract: one law for each return.
 use mathlib.Core.Path.{sym, _∙_}
 use Rattle.entries.proofs.PatternLaws.{bare-empty, bare-component, bare-rest, bare-slash, bare-anchored}
-use Rattle.entries.proofs.EndingLaws.{bare-excluded}
+use Rattle.entries.proofs.PrefilterLaws.{bare-excluded}
 use borrow.Author.Needs.{needs}
 use Rattle.entries.proofs.bare_matches.Statement.{statement}
 use Rattle.entries.proofs.bare_matches.Tie as tie
 
 returns : tie.Need-returns
-returns c = sym (bare-empty _ _ _ _ (c .if1 .taken))
+returns c = sym (bare-empty _ _ (c .if1 .taken))
 
-cannot-match-requires : tie.Need-cannot-match-requires
-cannot-match-requires c κs = search needs
+last-byte-excludes-requires : tie.Need-last-byte-excludes-requires
+last-byte-excludes-requires c κs = search needs
 
 returns-2 : tie.Need-returns-2
-returns-2 c = bare-excluded _ _ _ _ _ (c .before .cannot-match .ensures) (c .if2 .taken)
+returns-2 c = bare-excluded _ _ _ (c .before .last-byte-excludes .ensures) (c .if2 .taken)
 
 has-slash-requires : tie.Need-has-slash-requires
 has-slash-requires c κs = search needs
@@ -25,10 +25,15 @@ text-matches-requires : tie.Need-text-matches-requires
 text-matches-requires c κs = search needs
 
 returns-3 : tie.Need-returns-3
-returns-3 c = bare-rest _ _ _ _ _ (c .before .before .before .before .before .before .before .if1 .left) (sym (c .before .before .before .before .has-slash .ensures) ∙ c .before .before .before .if3 .taken) (c .before .if4 .taken) (c .text-matches .ensures)
+returns-3 c =
+    let at-if4 = c .before in
+    let at-if3 = at-if4 .before .before in
+    let at-has-slash = at-if3 .before in
+    let at-if1 = at-has-slash .before .before .before in
+    bare-rest _ _ _ (at-if1 .if1 .left) (sym (at-has-slash .has-slash .ensures) ∙ at-if3 .if3 .taken) (at-if4 .if4 .taken) (c .text-matches .ensures)
 
 returns-4 : tie.Need-returns-4
-returns-4 c = sym (bare-slash _ _ _ _ (c .before .if4 .left) (c .if5 .taken))
+returns-4 c = sym (bare-slash _ _ (c .before .if4 .left) (c .if5 .taken))
 
 sub-text-matches : tie.Need-sub-text-matches
 sub-text-matches c = search needs
@@ -43,20 +48,30 @@ text-matches-requires-2 : tie.Need-text-matches-requires-2
 text-matches-requires-2 c κs = search needs
 
 returns-5 : tie.Need-returns-5
-returns-5 c = bare-anchored _ _ _ _ _ (c .before .before .before .if4 .left) (c .before .before .before .before .before .before .before .before .before .if1 .left) (c .before .before .if5 .left) (c .text-matches2 .ensures)
+returns-5 c =
+    let at-if5 = c .before .before in
+    let at-if4 = at-if5 .before in
+    let at-if3 = at-if4 .before .before in
+    let at-if2 = at-if3 .before .before in
+    let at-if1 = at-if2 .before .before in
+    bare-anchored _ _ _ (at-if4 .if4 .left) (at-if1 .if1 .left) (at-if5 .if5 .left) (c .text-matches2 .ensures)
 
 text-matches-requires-3 : tie.Need-text-matches-requires-3
 text-matches-requires-3 c κs = search needs
 
 returns-6 : tie.Need-returns-6
-returns-6 c = bare-component _ _ _ _ _ (c .before .before .before .before .before .if1 .left) (sym (c .before .before .has-slash .ensures) ∙ c .before .if3 .left) (c .text-matches3 .ensures)
+returns-6 c =
+    let at-if3 = c .before in
+    let at-has-slash = at-if3 .before in
+    let at-if1 = at-has-slash .before .before .before in
+    bare-component _ _ _ (at-if1 .if1 .left) (sym (at-has-slash .has-slash .ensures) ∙ at-if3 .if3 .left) (c .text-matches3 .ensures)
 
 pub bare-matches-spec : {M : Type 1} → statement M
 bare-matches-spec =
     tie.close
     (tie.spec
     returns
-    cannot-match-requires
+    last-byte-excludes-requires
     returns-2
     has-slash-requires
     shared-slice-read-if4

@@ -4,13 +4,14 @@ use Prim.Native.Nat.{_-_, _≤_}
 use mathlib.Core.Path.{_≡_, sym, _∙_}
 use borrow.Author.Needs.{needs}
 use lib.ListN.{length, drop}
-use Rattle.entries.specs.Entries.{has}
-use Rattle.entries.proofs.ByteLaws.{has-at, has-next, has-none}
+use Rattle.bytestrings.specs.Text.{char}
+use Rattle.bytestrings.specs.Bytes.{has}
+use Rattle.bytestrings.proofs.ByteLaws.{has-at, has-next, has-none}
 use Rattle.entries.proofs.has_slash.Statement.{statement}
 use Rattle.entries.proofs.has_slash.Tie as tie
 
 abbrev Inv-loop : tie.InvT-loop
-Inv-loop pattern i₀ i = (i ≤ length pattern) × (has 47 pattern ≡ has 47 (drop i pattern))
+Inv-loop pattern i₀ i = (i ≤ length pattern) × (has (char "/") pattern ≡ has (char "/") (drop i pattern))
 
 abbrev μ-loop : tie.MeasureT-loop
 μ-loop pattern i₀ i = length pattern - i
@@ -22,7 +23,11 @@ shared-slice-read-if1 : tie.Need-shared-slice-read-if1 Inv-loop μ-loop
 shared-slice-read-if1 c = search needs
 
 returns : tie.Need-returns Inv-loop μ-loop
-returns c = sym (has-at 47 (now (c .before .before .before .before .args .pattern)) (c .before .before .before .loop .i) (c .before .before .loop-test .taken) (c .if1 .taken))
+returns c =
+    let at-loop-test = c .before .before in
+    let at-loop = at-loop-test .before in
+    let at-start = at-loop .before in
+    sym (has-at (char "/") (now (at-start .args .pattern)) (at-loop .loop .i) (at-loop-test .loop-test .taken) (c .if1 .taken))
 
 add-i : tie.Need-add-i Inv-loop μ-loop
 add-i c = search needs
@@ -31,10 +36,14 @@ loop-less : tie.Need-loop-less Inv-loop μ-loop
 loop-less c = search needs
 
 loop-again : tie.Need-loop-again Inv-loop μ-loop
-loop-again c = (search needs, c .before .before .before .loop .inv .1 ∙ has-next 47 (now (c .before .before .before .before .args .pattern)) (c .before .before .before .loop .i) (c .before .before .loop-test .taken) (c .if1 .left))
+loop-again c =
+    let at-loop-test = c .before .before in
+    let at-loop = at-loop-test .before in
+    let at-start = at-loop .before in
+    (search needs, at-loop .loop .inv .1 ∙ has-next (char "/") (now (at-start .args .pattern)) (at-loop .loop .i) (at-loop-test .loop-test .taken) (c .if1 .left))
 
 returns-2 : tie.Need-returns-2 Inv-loop μ-loop
-returns-2 c = sym (c .before .loop .inv .1 ∙ has-none 47 (now (c .before .before .args .pattern)) (c .before .loop .i) (c .loop-test .left))
+returns-2 c = sym (c .before .loop .inv .1 ∙ has-none (char "/") (now (c .before .before .args .pattern)) (c .before .loop .i) (c .loop-test .left))
 
 pub has-slash-spec : {M : Type 1} → statement M
 has-slash-spec =

@@ -1,5 +1,5 @@
 -- `ignorelines::escapes` meets its contract: only a `\` that is not escaped escapes.
-use Rattle.ignorelines.specs.Scan.{escapesNext}
+use Rattle.ignorelines.specs.inner.Scan.{escapesNext}
 use Rattle.ignorelines.proofs.escapes.Statement.{statement}
 use Rattle.ignorelines.proofs.escapes.Tie as tie
 

@@ -1,5 +1,5 @@
 -- `ignorelines::kept_after` meets its contract: a byte stays, unless it is a space that is not escaped.
-use Rattle.ignorelines.specs.Scan.{keptAfter}
+use Rattle.ignorelines.specs.inner.Scan.{keptAfter}
 use borrow.Author.Tests.{eq-eqb, ne-eqb}
 use Rattle.ignorelines.proofs.kept_after.Statement.{statement}
 use Rattle.ignorelines.proofs.kept_after.Tie as tie

@@ -38,10 +38,20 @@ loop-less : tie.Need-loop-less Inv-loop μ-loop
 loop-less c = search needs
 
 loop-again : tie.Need-loop-again Inv-loop μ-loop
-loop-again c = let l = c .before .before .before .before in let s = now (l .before .before .args .line) in let i = l .loop .i in (search needs, l .loop .inv .1 ∙ kept-step s (l .loop .keep) i (l .loop .escaped) (c .before .before .before .loop-test .taken) ∙ rw (c .before .kept-after .ensures, c .escapes .ensures))
+loop-again c =
+    let at-kept-after = c .before in
+    let at-loop-test = at-kept-after .before .before in
+    let at-loop = at-loop-test .before in
+    let at-start = at-loop .before .before in
+    let s = now (at-start .args .line) in
+    let i = at-loop .loop .i in
+    (search needs, at-loop .loop .inv .1 ∙ kept-step s (at-loop .loop .keep) i (at-loop .loop .escaped) (at-loop-test .loop-test .taken) ∙ rw (at-kept-after .kept-after .ensures, c .escapes .ensures))
 
 returns : tie.Need-returns Inv-loop μ-loop
-returns c = sym (c .before .loop .inv .1 ∙ kept-end (now (c .before .before .before .args .line)) (c .before .loop .keep) (c .before .loop .i) (c .before .loop .escaped) (c .loop-test .left))
+returns c =
+    let at-loop = c .before in
+    let at-start = at-loop .before .before in
+    sym (at-loop .loop .inv .1 ∙ kept-end (now (at-start .args .line)) (at-loop .loop .keep) (at-loop .loop .i) (at-loop .loop .escaped) (c .loop-test .left))
 
 pub kept-scan-spec : {M : Type 1} → statement M
 kept-scan-spec =

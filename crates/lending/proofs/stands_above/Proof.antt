@@ -20,7 +20,11 @@ loop-holds : tie.Need-loop-holds Inv-loop μ-loop
 loop-holds c = (search needs, refl)
 
 returns : tie.Need-returns Inv-loop μ-loop
-returns c = let l = c .before .before in sym (l .loop .inv .1 ∙ above-short (now (l .before .args .directory)) (now (l .before .args .path)) (l .loop .i) (c .before .loop-test .taken) (c .if1 .taken))
+returns c =
+    let at-loop-test = c .before in
+    let at-loop = at-loop-test .before in
+    let at-start = at-loop .before in
+    sym (at-loop .loop .inv .1 ∙ above-short (now (at-start .args .directory)) (now (at-start .args .path)) (at-loop .loop .i) (at-loop-test .loop-test .taken) (c .if1 .taken))
 
 shared-slice-read-if2 : tie.Need-shared-slice-read-if2 Inv-loop μ-loop
 shared-slice-read-if2 c = search needs
@@ -29,7 +33,12 @@ shared-slice-read-if2-2 : tie.Need-shared-slice-read-if2-2 Inv-loop μ-loop
 shared-slice-read-if2-2 c = search needs
 
 returns-2 : tie.Need-returns-2 Inv-loop μ-loop
-returns-2 c = let e = c .before .before .before in let l = e .before .before in sym (l .loop .inv .1 ∙ above-differs (now (l .before .args .directory)) (now (l .before .args .path)) (l .loop .i) (e .before .loop-test .taken) (omega arith) (c .if2 .taken))
+returns-2 c =
+    let at-shared-slice-known = c .before .before in
+    let at-loop-test = at-shared-slice-known .before .before in
+    let at-loop = at-loop-test .before in
+    let at-start = at-loop .before in
+    sym (at-loop .loop .inv .1 ∙ above-differs (now (at-start .args .directory)) (now (at-start .args .path)) (at-loop .loop .i) (at-loop-test .loop-test .taken) (omega arith) (c .if2 .taken))
 
 add-i : tie.Need-add-i Inv-loop μ-loop
 add-i c = search needs
@@ -38,13 +47,26 @@ loop-less : tie.Need-loop-less Inv-loop μ-loop
 loop-less c = search needs
 
 loop-again : tie.Need-loop-again Inv-loop μ-loop
-loop-again c = let e = c .before .before .before in let l = e .before .before in (search needs, l .loop .inv .1 ∙ above-next (now (l .before .args .directory)) (now (l .before .args .path)) (l .loop .i) (e .before .loop-test .taken) (omega arith) (c .if2 .left))
+loop-again c =
+    let at-shared-slice-known = c .before .before in
+    let at-loop-test = at-shared-slice-known .before .before in
+    let at-loop = at-loop-test .before in
+    let at-start = at-loop .before in
+    (search needs, at-loop .loop .inv .1 ∙ above-next (now (at-start .args .directory)) (now (at-start .args .path)) (at-loop .loop .i) (at-loop-test .loop-test .taken) (omega arith) (c .if2 .left))
 
 returns-3 : tie.Need-returns-3 Inv-loop μ-loop
-returns-3 c = let l = c .before .before in sym (l .loop .inv .1 ∙ above-all (now (l .before .args .directory)) (now (l .before .args .path)) (l .loop .i) (c .before .loop-test .left) (c .if3 .taken))
+returns-3 c =
+    let at-loop-test = c .before in
+    let at-loop = at-loop-test .before in
+    let at-start = at-loop .before in
+    sym (at-loop .loop .inv .1 ∙ above-all (now (at-start .args .directory)) (now (at-start .args .path)) (at-loop .loop .i) (at-loop-test .loop-test .left) (c .if3 .taken))
 
 returns-4 : tie.Need-returns-4 Inv-loop μ-loop
-returns-4 c = let l = c .before .before in sym (l .loop .inv .1 ∙ above-more (now (l .before .args .directory)) (now (l .before .args .path)) (l .loop .i) (c .before .loop-test .left) (omega arith))
+returns-4 c =
+    let at-loop-test = c .before in
+    let at-loop = at-loop-test .before in
+    let at-start = at-loop .before in
+    sym (at-loop .loop .inv .1 ∙ above-more (now (at-start .args .directory)) (now (at-start .args .path)) (at-loop .loop .i) (at-loop-test .loop-test .left) (omega arith))
 
 pub stands-above-spec : {M : Type 1} → statement M
 stands-above-spec =

@@ -1,6 +1,6 @@
 -- `rulefiles::file_part` meets its contract: each return is the part, by where the start and the end lie.
 use mathlib.Core.Path.{refl}
-use Rattle.rulefiles.specs.RuleFiles.{part}
+use Rattle.rulefiles.specs.RuleFiles.{bytesBetween}
 use Rattle.rulefiles.proofs.PartLaws.{part-none, part-past, part-rest}
 use borrow.Author.Needs.{needs}
 use Rattle.rulefiles.proofs.file_part.Statement.{statement}
@@ -22,7 +22,7 @@ part-result-end : tie.Need-part-result-end
 part-result-end c = search needs
 
 returns-2 : tie.Need-returns-2
-unfolding part
+unfolding bytesBetween
 returns-2 c = refl
 
 sub-result-2 : tie.Need-sub-result-2

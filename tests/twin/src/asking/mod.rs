@@ -4,8 +4,8 @@ pub mod calls;
 pub mod check;
 pub mod form;
 pub mod lent;
-#[cfg(feature = "prober")]
-pub mod prober;
+#[cfg(feature = "testcalls")]
+pub mod testcalls;
 
 use crate::reader::{Answer, Question};
 

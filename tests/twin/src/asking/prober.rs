@@ -4,7 +4,7 @@ use super::Asks;
 use crate::reader::{Answer, Question};
 
 extern "C" {
-    fn prober_ignore(
+    fn testcalls_ignore(
         path: *const u8,
         path_len: usize,
         rules: *const u8,
@@ -17,7 +17,7 @@ extern "C" {
         out: *mut usize,
         out_len: usize,
     ) -> u32;
-    fn prober_attribute(
+    fn testcalls_attribute(
         path: *const u8,
         path_len: usize,
         rules: *const u8,
@@ -99,7 +99,7 @@ fn call(places: Places, flags: u64, out: &mut [usize]) -> u32 {
     let Places { path, rules, ends, bases, name } = places;
     unsafe {
         match name {
-            None => prober_ignore(
+            None => testcalls_ignore(
                 path.as_ptr(),
                 path.len(),
                 rules.as_ptr(),
@@ -112,7 +112,7 @@ fn call(places: Places, flags: u64, out: &mut [usize]) -> u32 {
                 out.as_mut_ptr(),
                 out.len(),
             ),
-            Some(name) => prober_attribute(
+            Some(name) => testcalls_attribute(
                 path.as_ptr(),
                 path.len(),
                 rules.as_ptr(),

@@ -5,18 +5,18 @@
 //! usage: ask_questions [twin]
 use std::env::args;
 use std::io::{stdin, stdout, BufRead, BufWriter, Write};
-use twin::asking::prober::Prober;
+use twin::asking::testcalls::Prober;
 use twin::asking::{form, Asks};
 use twin::reader;
 
 fn main() {
-    let mut prober = Prober::default();
+    let mut testcalls = Prober::default();
     let twin = args().nth(1).is_some_and(|word| word == "twin");
     let mut out = BufWriter::new(stdout().lock());
     for line in stdin().lock().lines() {
         let line = line.expect("a line of text");
         let question = form::read(&line).unwrap_or_else(|| panic!("not a question: {line}"));
-        let answer = if twin { reader::answer(&question) } else { prober.ask(&question) };
+        let answer = if twin { reader::answer(&question) } else { testcalls.ask(&question) };
         writeln!(out, "{}", form::answer(&answer)).expect("stdout");
     }
 }

@@ -3,7 +3,7 @@
 //!
 //! usage: questions [random questions, default 200000] [seed, default 1] [quick|full, default quick]
 use twin::asking::check::{Check, Count};
-use twin::asking::prober::Prober;
+use twin::asking::testcalls::Prober;
 use twin::cases::lending::Extent;
 use twin::cases::{self, hostile, layers};
 use twin::crash;

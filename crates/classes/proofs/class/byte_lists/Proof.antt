@@ -1,4 +1,4 @@
--- `classes::class::byte_lists` meets its contract: each way out is the clause of `lists` for a byte, at x or y.
+-- `classes::class::byte_lists` meets its contract: each return is the clause of `lists` for a byte, at x or y.
 use mathlib.Core.Path.{refl}
 use borrow.Author.Tests.{eq-eqb, ne-eqb}
 use Rattle.classes.specs.Members.{lists}

@@ -17,8 +17,10 @@ start d =
     (d .if1 .came)
 
 measured : (d : tie.After-members-size)
-    → Measured (d .before .before .before .before .before .before .args .q .now) (d .before .before .before .if1 .from)
-    (d .members-size .result) (readClass (d .before .before .before .before .before .before .args .q .now))
+    → let at-if1 = d .before .before .before in
+    let at-start = at-if1 .before .before .before in
+    Measured (at-start .args .q .now) (at-if1 .if1 .from)
+    (d .members-size .result) (readClass (at-start .args .q .now))
 measured d = class-measured _ _ _ (start (d .before .before .before)) (d .members-size .ensures)
 
 is-negated-requires : tie.Need-is-negated-requires

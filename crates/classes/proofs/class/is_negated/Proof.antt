@@ -11,10 +11,16 @@ shared-slice-read-x : tie.Need-shared-slice-read-x
 shared-slice-read-x c = search needs
 
 returns-2 : tie.Need-returns-2
-returns-2 c = sign-first (c .before .before .before .args .q .now) (c .before .before .if1 .left) (c .if2 .taken)
+returns-2 c =
+    let at-if1 = c .before .before in
+    let at-start = at-if1 .before in
+    sign-first (at-start .args .q .now) (at-if1 .if1 .left) (c .if2 .taken)
 
 returns-3 : tie.Need-returns-3
-returns-3 c = sign-other (c .before .before .before .args .q .now) (c .before .before .if1 .left) (c .if2 .left)
+returns-3 c =
+    let at-if1 = c .before .before in
+    let at-start = at-if1 .before in
+    sign-other (at-start .args .q .now) (at-if1 .if1 .left) (c .if2 .left)
 
 pub is-negated-spec : {M : Type 1} → statement M
 is-negated-spec = tie.close (tie.spec returns shared-slice-read-x returns-2 returns-3)

@@ -21,7 +21,10 @@ name-has-requires-2 c κs = search needs
 
 returns-3 : tie.Need-returns-3
 unfolding lists
-returns-3 c = rw (sym (c .before .before .before .name-has .ensures) ∙ c .before .before .if1 .left) (c .name-has2 .ensures)
+returns-3 c =
+    let at-if1 = c .before .before in
+    let at-name-has = at-if1 .before in
+    rw (sym (at-name-has .name-has .ensures) ∙ at-if1 .if1 .left) (c .name-has2 .ensures)
 
 pub name-lists-spec : {M : Type 1} → statement M
 name-lists-spec =

@@ -4,7 +4,7 @@ use borrow.Author.Tests.{eqb-true, leb-true}
 use borrow.Author.Needs.{needs}
 use native.Mathlib.Omega.{arith}
 use Rattle.classes.specs.Members.{nextMember}
-use Rattle.classes.proofs.MemberLaws.{from-drop}
+use Rattle.bytestrings.proofs.SliceLaws.{from-drop}
 use Rattle.classes.proofs.PlainLaws.{plain-less, plain-part, plain-within, plain-known}
 use Rattle.classes.proofs.class.next_at.Statement.{statement}
 use Rattle.classes.proofs.class.next_at.Tie as tie
@@ -20,7 +20,10 @@ add-if3 c = search needs
 
 shared-slice-read-if3 : tie.Need-shared-slice-read-if3
 shared-slice-read-if3 c =
-    let h = plain-within _ _ _ (c .before .before .before .before .before .pre .1) (omega (arith, leb-true)) in omega (arith, leb-true)
+    let at-if1 = c .before .before in
+    let at-start = at-if1 .before .before .before in
+    let h = plain-within _ _ _ (at-start .pre .1) (omega (arith, leb-true)) in
+    omega (arith, leb-true)
 
 sub-t13 : tie.Need-sub-t13
 sub-t13 c = omega (arith, leb-true)
@@ -29,10 +32,13 @@ sub-t14 : tie.Need-sub-t14
 sub-t14 c = omega (arith, leb-true)
 
 returns : tie.Need-returns
-returns c = (
-  plain-known _ _ _ _ (c .before .before .before .before .before .before .pre .1) (leb-true _ _ (c .before .before .if2 .taken)) (c .before .before .before .if1 .taken) (eqb-true _ _ (c .if3 .taken)),
-  plain-less _ _ _ _ _ (omega arith) (omega (arith, leb-true)) (c .before .before .before .before .before .before .pre .1),
-)
+returns c =
+    let at-if2 = c .before .before in
+    let at-if1 = at-if2 .before in
+    let at-start = at-if1 .before .before .before in (
+      plain-known _ _ _ _ (at-start .pre .1) (leb-true _ _ (at-if2 .if2 .taken)) (at-if1 .if1 .taken) (eqb-true _ _ (c .if3 .taken)),
+      plain-less _ _ _ _ _ (omega arith) (omega (arith, leb-true)) (at-start .pre .1),
+    )
 
 sub-next-member : tie.Need-sub-next-member
 sub-next-member c = search needs
@@ -47,10 +53,12 @@ next-member-requires : tie.Need-next-member-requires
 next-member-requires c κs = search needs
 
 returns-2 : tie.Need-returns-2
-returns-2 c = (
-  c .next-member .ensures .0 ∙ ap (nextMember _) (from-drop (c .before .before .before .before .before .args .i) (c .before .before .before .before .before .args .q .now)),
-  plain-less _ _ _ _ _ (omega arith) (omega arith) (plain-part _ _ 2 _ (c .next-member .ensures .1)),
-)
+returns-2 c =
+    let at-if1 = c .before .before in
+    let at-start = at-if1 .before .before .before in (
+      c .next-member .ensures .0 ∙ ap (nextMember _) (from-drop (at-start .args .i) (at-start .args .q .now)),
+      plain-less _ _ _ _ _ (omega arith) (omega arith) (plain-part _ _ 2 _ (c .next-member .ensures .1)),
+    )
 
 pub next-at-spec : {M : Type 1} → statement M
 next-at-spec =

@@ -1,4 +1,4 @@
--- `classes::class::range_has` meets its contract: each way out settles the tests of the clause of `lists` for a range.
+-- `classes::class::range_has` meets its contract: each return settles the tests of the clause of `lists` for a range.
 use mathlib.Core.Path.{refl}
 use borrow.Author.Tests.{eq-eqb, ne-eqb, le-leb, lt-leb}
 use Rattle.classes.specs.Members.{lists}

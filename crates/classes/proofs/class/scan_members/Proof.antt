@@ -7,7 +7,7 @@ use native.Mathlib.Omega.{arith}
 use lib.ListN.{length}
 use borrow.Author.Needs.{needs}
 use Rattle.classes.specs.Members.{Member, member}
-use Rattle.classes.specs.Scan.{stepOf, plainPlaces, PlainTo}
+use Rattle.classes.specs.inner.Scan.{stepOf, plainPlaces, PlainTo}
 use Rattle.classes.proofs.PlainLaws.{plain-none, plain-less, plain-within}
 use Rattle.classes.proofs.ScanLaws.{Left, left-all, left-none, left-close, left-broken, left-size, left-turn, found, found-before, found-now}
 use Rattle.classes.proofs.class.scan_members.Statement.{statement}
@@ -20,25 +20,37 @@ abbrev μ-loop : tie.MeasureT-loop
 μ-loop q x y i₀ hit₀ plain₀ i hit plain = length q - i
 
 -- the member b of n bytes was read: it fits into the bytes that are left
-size : (d : tie.After-next-at Inv-loop μ-loop) (b : Member) (n : ℕ) → stepOf (d .next-at .result) ≡ member b n
-    → (1 ≤ n) × (n ≤ length (d .before .before .before .before .args .q .now) - d .before .before .loop .i)
+size : (d : tie.After-next-at Inv-loop μ-loop) (b : Member) (n : ℕ)
+    → let at-loop = d .before .before in
+    let at-start = at-loop .before .before in
+    stepOf (d .next-at .result) ≡ member b n
+    → (1 ≤ n) × (n ≤ length (at-start .args .q .now) - at-loop .loop .i)
 size d = left-size _ _ _ _ _ _ (d .next-at .ensures .0) (d .before .before .loop .inv .1)
 
 -- and is passed
-turn : (d : tie.After-next-at Inv-loop μ-loop) (b : Member) (n : ℕ) → stepOf (d .next-at .result) ≡ member b n
-    → (p : ℕ) → PlainTo (d .before .before .before .before .args .q .now) (d .before .before .loop .i + 2) p
-    → (more : Bool) → more ≡ found (d .before .before .loop .hit) b (d .before .before .before .before .args .x) (d .before .before .before .before .args .y)
-    → (d .before .before .loop .i + n ≤ length (d .before .before .before .before .args .q .now))
-    × Left (d .before .before .before .before .args .q .now) (d .before .before .before .before .args .x) (d .before .before .before .before .args .y) (d .before .before .loop .i + n) more
-    × PlainTo (d .before .before .before .before .args .q .now) (d .before .before .loop .i + n + 2) p
+turn : (d : tie.After-next-at Inv-loop μ-loop) (b : Member) (n : ℕ)
+    → let at-loop = d .before .before in
+    let at-start = at-loop .before .before in
+    stepOf (d .next-at .result) ≡ member b n
+    → (p : ℕ) → PlainTo (at-start .args .q .now) (at-loop .loop .i + 2) p
+    → (more : Bool) → more ≡ found (at-loop .loop .hit) b (at-start .args .x) (at-start .args .y)
+    → (at-loop .loop .i + n ≤ length (at-start .args .q .now))
+    × Left (at-start .args .q .now) (at-start .args .x) (at-start .args .y) (at-loop .loop .i + n) more
+    × PlainTo (at-start .args .q .now) (at-loop .loop .i + n + 2) p
 turn d b n e p = left-turn _ _ _ _ _ _ (d .next-at .ensures .0) (d .before .before .loop .inv .1) b n e p (d .before .loop-test .taken)
 
 -- up to where the next `]` stands, after a `[` that was found to be plain before a `:`
 plain-found : (c : tie.Joined4 Inv-loop μ-loop)
-    → PlainTo (c .before .before .before .before .before .before .before .before .args .q .now) (c .before .before .before .before .before .before .loop .i + 2) (c .before .before .before .before .before .before .loop .i + 2 + c .before .before .n .given .0 .0 + 1)
+    → let at-n = c .before .before in
+    let at-next-at = at-n .before .before in
+    let at-loop = at-next-at .before .before in
+    let at-start = at-loop .before .before in
+    PlainTo (at-start .args .q .now) (at-loop .loop .i + 2) (at-loop .loop .i + 2 + at-n .n .given .0 .0 + 1)
 plain-found c =
-    let e = ap plainPlaces (c .before .before .n .given .1) in
-    plain-less _ _ _ _ _ (omega arith) (omega arith) (c .before .before .before .before .next-at .ensures .1)
+    let at-n = c .before .before in
+    let at-next-at = at-n .before .before in
+    let e = ap plainPlaces (at-n .n .given .1) in
+    plain-less _ _ _ _ _ (omega arith) (omega arith) (at-next-at .next-at .ensures .1)
 
 loop-holds : tie.Need-loop-holds Inv-loop μ-loop
 loop-holds c = (search needs, left-all _ _ _, plain-none _ _ _ (omega arith))
@@ -53,13 +65,19 @@ add-t18 : tie.Need-add-t18 Inv-loop μ-loop
 add-t18 c = search needs
 
 returns : tie.Need-returns Inv-loop μ-loop
-returns c = left-close _ _ _ _ _ _ (c .before .before .next-at .ensures .0) (c .before .before .before .before .loop .inv .1) (ap stepOf (c .enum-told .given .1))
+returns c =
+    let at-next-at = c .before .before in
+    let at-loop = at-next-at .before .before in
+    left-close _ _ _ _ _ _ (at-next-at .next-at .ensures .0) (at-loop .loop .inv .1) (ap stepOf (c .enum-told .given .1))
 
 enum-told-2 : tie.Need-enum-told-2 Inv-loop μ-loop
 enum-told-2 c = search needs
 
 returns-2 : tie.Need-returns-2 Inv-loop μ-loop
-returns-2 c = left-broken _ _ _ _ _ _ (c .before .before .next-at .ensures .0) (c .before .before .before .before .loop .inv .1) (ap stepOf (c .enum-told2 .given .1))
+returns-2 c =
+    let at-next-at = c .before .before in
+    let at-loop = at-next-at .before .before in
+    left-broken _ _ _ _ _ _ (at-next-at .next-at .ensures .0) (at-loop .loop .inv .1) (ap stepOf (c .enum-told2 .given .1))
 
 enum-known-b : tie.Need-enum-known-b Inv-loop μ-loop
 enum-known-b c = search needs
@@ -68,14 +86,25 @@ byte-lists-requires : tie.Need-byte-lists-requires Inv-loop μ-loop
 byte-lists-requires c κs = search needs
 
 add-i : tie.Need-add-i Inv-loop μ-loop
-add-i c = let h = size (c .before .before .before .before) _ _ (ap stepOf (c .before .before .b .given .1)) in omega arith
+add-i c =
+    let at-b = c .before .before in
+    let at-next-at = at-b .before .before in
+    let h = size at-next-at _ _ (ap stepOf (at-b .b .given .1)) in
+    omega arith
 
 loop-less : tie.Need-loop-less Inv-loop μ-loop
-loop-less c = let h = size (c .before .before .before .before) _ _ (ap stepOf (c .before .before .b .given .1)) in omega arith
+loop-less c =
+    let at-b = c .before .before in
+    let at-next-at = at-b .before .before in
+    let h = size at-next-at _ _ (ap stepOf (at-b .b .given .1)) in
+    omega arith
 
 loop-again : tie.Need-loop-again Inv-loop μ-loop
 loop-again c =
-    turn (c .before .before .before .before) _ _ (ap stepOf (c .before .before .b .given .1)) _ (c .before .before .before .before .before .before .loop .inv .2) _
+    let at-b = c .before .before in
+    let at-next-at = at-b .before .before in
+    let at-loop = at-next-at .before .before in
+    turn at-next-at _ _ (ap stepOf (at-b .b .given .1)) _ (at-loop .loop .inv .2) _
     (⊎-elim (λ w. w .1 ∙ found-before _ _ _ _ (w .0 .taken)) (λ w. w .2 ∙ found-now _ _ _ _ (w .0 .left) _ (w .1 .ensures)) (c .if1 .came))
 
 enum-known-a : tie.Need-enum-known-a Inv-loop μ-loop
@@ -85,14 +114,25 @@ range-lists-requires : tie.Need-range-lists-requires Inv-loop μ-loop
 range-lists-requires c κs = search needs
 
 add-i-2 : tie.Need-add-i-2 Inv-loop μ-loop
-add-i-2 c = let h = size (c .before .before .before .before) _ _ (ap stepOf (c .before .before .a .given .1)) in omega arith
+add-i-2 c =
+    let at-a = c .before .before in
+    let at-next-at = at-a .before .before in
+    let h = size at-next-at _ _ (ap stepOf (at-a .a .given .1)) in
+    omega arith
 
 loop-less-2 : tie.Need-loop-less-2 Inv-loop μ-loop
-loop-less-2 c = let h = size (c .before .before .before .before) _ _ (ap stepOf (c .before .before .a .given .1)) in omega arith
+loop-less-2 c =
+    let at-a = c .before .before in
+    let at-next-at = at-a .before .before in
+    let h = size at-next-at _ _ (ap stepOf (at-a .a .given .1)) in
+    omega arith
 
 loop-again-2 : tie.Need-loop-again-2 Inv-loop μ-loop
 loop-again-2 c =
-    turn (c .before .before .before .before) _ _ (ap stepOf (c .before .before .a .given .1)) _ (c .before .before .before .before .before .before .loop .inv .2) _
+    let at-a = c .before .before in
+    let at-next-at = at-a .before .before in
+    let at-loop = at-next-at .before .before in
+    turn at-next-at _ _ (ap stepOf (at-a .a .given .1)) _ (at-loop .loop .inv .2) _
     (⊎-elim (λ w. w .1 ∙ found-before _ _ _ _ (w .0 .taken)) (λ w. w .2 ∙ found-now _ _ _ _ (w .0 .left) _ (w .1 .ensures)) (c .if2 .came))
 
 enum-known-k : tie.Need-enum-known-k Inv-loop μ-loop
@@ -102,14 +142,25 @@ name-lists-requires : tie.Need-name-lists-requires Inv-loop μ-loop
 name-lists-requires c κs = search needs
 
 add-i-3 : tie.Need-add-i-3 Inv-loop μ-loop
-add-i-3 c = let h = size (c .before .before .before .before) _ _ (ap stepOf (c .before .before .k .given .1)) in omega arith
+add-i-3 c =
+    let at-k = c .before .before in
+    let at-next-at = at-k .before .before in
+    let h = size at-next-at _ _ (ap stepOf (at-k .k .given .1)) in
+    omega arith
 
 loop-less-3 : tie.Need-loop-less-3 Inv-loop μ-loop
-loop-less-3 c = let h = size (c .before .before .before .before) _ _ (ap stepOf (c .before .before .k .given .1)) in omega arith
+loop-less-3 c =
+    let at-k = c .before .before in
+    let at-next-at = at-k .before .before in
+    let h = size at-next-at _ _ (ap stepOf (at-k .k .given .1)) in
+    omega arith
 
 loop-again-3 : tie.Need-loop-again-3 Inv-loop μ-loop
 loop-again-3 c =
-    turn (c .before .before .before .before) _ _ (ap stepOf (c .before .before .k .given .1)) _ (c .before .before .before .before .before .before .loop .inv .2) _
+    let at-k = c .before .before in
+    let at-next-at = at-k .before .before in
+    let at-loop = at-next-at .before .before in
+    turn at-next-at _ _ (ap stepOf (at-k .k .given .1)) _ (at-loop .loop .inv .2) _
     (⊎-elim (λ w. w .1 ∙ found-before _ _ _ _ (w .0 .taken)) (λ w. w .2 ∙ found-now _ _ _ _ (w .0 .left) _ (w .1 .ensures)) (c .if3 .came))
 
 enum-known-n : tie.Need-enum-known-n Inv-loop μ-loop
@@ -125,14 +176,24 @@ add-plain-2 : tie.Need-add-plain-2 Inv-loop μ-loop
 add-plain-2 c = let h = plain-within _ _ _ (plain-found c) (omega arith) in omega arith
 
 add-i-4 : tie.Need-add-i-4 Inv-loop μ-loop
-add-i-4 c = let h = size (c .before .before .before .before) _ _ (ap stepOf (c .before .before .n .given .1)) in omega arith
+add-i-4 c =
+    let at-n = c .before .before in
+    let at-next-at = at-n .before .before in
+    let h = size at-next-at _ _ (ap stepOf (at-n .n .given .1)) in
+    omega arith
 
 loop-less-4 : tie.Need-loop-less-4 Inv-loop μ-loop
-loop-less-4 c = let h = size (c .before .before .before .before) _ _ (ap stepOf (c .before .before .n .given .1)) in omega arith
+loop-less-4 c =
+    let at-n = c .before .before in
+    let at-next-at = at-n .before .before in
+    let h = size at-next-at _ _ (ap stepOf (at-n .n .given .1)) in
+    omega arith
 
 loop-again-4 : tie.Need-loop-again-4 Inv-loop μ-loop
 loop-again-4 c =
-    turn (c .before .before .before .before) _ _ (ap stepOf (c .before .before .n .given .1)) _ (plain-found c) _
+    let at-n = c .before .before in
+    let at-next-at = at-n .before .before in
+    turn at-next-at _ _ (ap stepOf (at-n .n .given .1)) _ (plain-found c) _
     (⊎-elim (λ w. w .1 ∙ found-before _ _ _ _ (w .0 .taken)) (λ w. w .2 ∙ found-now _ _ _ _ (w .0 .left) _ (w .1 .ensures)) (c .if4 .came))
 
 returns-3 : tie.Need-returns-3 Inv-loop μ-loop

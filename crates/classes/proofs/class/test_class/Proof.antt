@@ -3,7 +3,7 @@ use mathlib.Core.Logic.{⊎-elim}
 use mathlib.Core.Path.{_≡_, _∙_}
 use native.Mathlib.Omega.{arith}
 use borrow.Author.Needs.{needs}
-use Rattle.classes.specs.Letters.{lower, upper}
+use Rattle.bytestrings.specs.Letters.{lower, upper}
 use Rattle.classes.proofs.ClassLaws.{startOf, start-sign, start-plain, start-within, form, form-folded, form-plain, class-fits, class-bad, class-read}
 use Rattle.classes.proofs.class.test_class.Statement.{statement}
 use Rattle.classes.proofs.class.test_class.Tie as tie
@@ -16,12 +16,16 @@ start c =
     (c .if1 .came)
 
 low-form : (c : tie.Joined2)
-    → c .if2 .low ≡ form (c .before .before .before .before .args .fold) (lower (c .before .before .before .before .args .x)) (c .before .before .before .before .args .x)
+    → let at-is-negated = c .before .before in
+    let at-start = at-is-negated .before .before in
+    c .if2 .low ≡ form (at-start .args .fold) (lower (at-start .args .x)) (at-start .args .x)
 low-form c =
     ⊎-elim (λ w. form-folded _ _ _ _ (w .0 .taken) (w .2 ∙ w .1 .ensures)) (λ w. form-plain _ _ _ _ (w .0 .left) (w .1)) (c .if2 .came)
 
 high-form : (c : tie.Joined3)
-    → c .if3 .high ≡ form (c .before .before .before .before .before .args .fold) (upper (c .before .before .before .before .before .args .x)) (c .before .before .before .before .before .args .x)
+    → let at-is-negated = c .before .before .before in
+    let at-start = at-is-negated .before .before in
+    c .if3 .high ≡ form (at-start .args .fold) (upper (at-start .args .x)) (at-start .args .x)
 high-form c =
     ⊎-elim (λ w. form-folded _ _ _ _ (w .0 .taken) (w .2 ∙ w .1 .ensures)) (λ w. form-plain _ _ _ _ (w .0 .left) (w .1)) (c .if3 .came)
 
@@ -36,11 +40,15 @@ to-upper-requires c κs = search needs
 
 sub-scan-members : tie.Need-sub-scan-members
 sub-scan-members c =
-    start-within (c .before .before .before .before .before .before .args .q .now) _ (start (c .before .before .before))
+    let at-if1 = c .before .before .before in
+    let at-start = at-if1 .before .before .before in
+    start-within (at-start .args .q .now) _ (start at-if1)
 
 part-scan-members-start : tie.Need-part-scan-members-start
 part-scan-members-start c =
-    start-within (c .before .before .before .before .before .before .args .q .now) _ (start (c .before .before .before))
+    let at-if1 = c .before .before .before in
+    let at-start = at-if1 .before .before .before in
+    start-within (at-start .args .q .now) _ (start at-if1)
 
 part-scan-members-end : tie.Need-part-scan-members-end
 part-scan-members-end c = search needs
@@ -56,23 +64,39 @@ enum-known-hit c = search needs
 
 add-t21 : tie.Need-add-t21
 add-t21 c =
-    let h = class-fits (c .before .before .before .before .before .before .before .before .before .before .before .args .q .now) (c .before .before .before .before .before .before .before .before .if1 .from) _ _ _
-    (start (c .before .before .before .before .before .before .before .before)) (c .before .before .before .scan-members .ensures)
-    _ _ (c .before .hit .given .1) in omega arith
+    let at-hit = c .before in
+    let at-scan-members = at-hit .before .before in
+    let at-if3 = at-scan-members .before .before .before in
+    let at-if1 = at-if3 .before .before in
+    let at-start = at-if1 .before .before .before in
+    let h = class-fits (at-start .args .q .now) (at-if1 .if1 .from) _ _ _
+    (start at-if1) (at-scan-members .scan-members .ensures)
+    _ _ (at-hit .hit .given .1) in
+    omega arith
 
 returns : tie.Need-returns
 returns c =
+    let at-scan-members = c .before .before in
+    let at-if3 = at-scan-members .before .before .before in
+    let at-if2 = at-if3 .before in
+    let at-if1 = at-if2 .before in
     class-bad _ _ _ _ _
-    (start (c .before .before .before .before .before .before .before)) (c .before .before .scan-members .ensures)
-    _ _ (low-form (c .before .before .before .before .before .before)) (high-form (c .before .before .before .before .before))
+    (start at-if1) (at-scan-members .scan-members .ensures)
+    _ _ (low-form at-if2) (high-form at-if3)
     (c .enum-told .given .1)
 
 returns-2 : tie.Need-returns-2
 returns-2 c =
+    let at-hit = c .before in
+    let at-scan-members = at-hit .before .before in
+    let at-if3 = at-scan-members .before .before .before in
+    let at-if2 = at-if3 .before in
+    let at-if1 = at-if2 .before in
+    let at-is-negated = at-if1 .before in
     class-read _ _ _ _ _
-    (start (c .before .before .before .before .before .before .before .before)) (c .before .before .before .scan-members .ensures)
-    _ _ (low-form (c .before .before .before .before .before .before .before)) (high-form (c .before .before .before .before .before .before))
-    _ _ _ (c .before .before .before .before .before .before .before .before .before .is-negated .ensures) (c .before .hit .given .1)
+    (start at-if1) (at-scan-members .scan-members .ensures)
+    _ _ (low-form at-if2) (high-form at-if3)
+    _ _ _ (at-is-negated .is-negated .ensures) (at-hit .hit .given .1)
 
 pub test-class-spec : {M : Type 1} → statement M
 test-class-spec =

@@ -1,4 +1,4 @@
--- `classes::members::read_bracket` meets its contract: each way out settles the tests of `bracketAt`.
+-- `classes::members::read_bracket` meets its contract: each return settles the tests of `bracketAt`.
 use native.Mathlib.Omega.{arith}
 use borrow.Author.Needs.{needs}
 use Rattle.classes.proofs.MemberLaws.{bracket-end, bracket-name, bracket-single}
@@ -26,14 +26,18 @@ read-name-requires c κs = search needs
 
 returns-2 : tie.Need-returns-2
 returns-2 c =
-    (bracket-name _ _ (c .before .before .before .before .if1 .left) (c .before .before .if2 .taken) (c .read-name .ensures .0), plain-part _ 1 0 _ (c .read-name .ensures .1))
+    let at-if2 = c .before .before in
+    let at-if1 = at-if2 .before .before in
+    (bracket-name _ _ (at-if1 .if1 .left) (at-if2 .if2 .taken) (c .read-name .ensures .0), plain-part _ 1 0 _ (c .read-name .ensures .1))
 
 read-single-requires : tie.Need-read-single-requires
 read-single-requires c κs = search needs
 
 returns-3 : tie.Need-returns-3
 returns-3 c =
-    (bracket-single _ _ (c .before .before .before .if1 .left) (c .before .if2 .left) (c .read-single .ensures .0), plain-none _ _ _ (omega (arith, c .read-single .ensures .1)))
+    let at-if2 = c .before in
+    let at-if1 = at-if2 .before .before in
+    (bracket-single _ _ (at-if1 .if1 .left) (at-if2 .if2 .left) (c .read-single .ensures .0), plain-none _ _ _ (omega (arith, c .read-single .ensures .1)))
 
 pub read-bracket-spec : {M : Type 1} → statement M
 read-bracket-spec =

@@ -1,4 +1,4 @@
--- `classes::members::read_name` meets its contract: each way out settles the tests of `nameAt`.
+-- `classes::members::read_name` meets its contract: each return settles the tests of `nameAt`.
 use mathlib.Core.Path.{sym}
 use Prim.Native.Nat.{_-_}
 use native.Mathlib.Omega.{arith}
@@ -26,34 +26,51 @@ shared-slice-read-if3 c = search needs
 
 returns-3 : tie.Need-returns-3
 returns-3 c =
-    plain-other _ _ (c .before .before .before .before .until-close .ensures) (c .before .before .before .if1 .left) (c .before .before .if2 .left) (c .if3 .taken)
+    let at-if2 = c .before .before in
+    let at-if1 = at-if2 .before in
+    let at-until-close = at-if1 .before in
+    plain-other _ _ (at-until-close .until-close .ensures) (at-if1 .if1 .left) (at-if2 .if2 .left) (c .if3 .taken)
 
 sub-which-name : tie.Need-sub-which-name
 sub-which-name c = search needs
 
 slice-aggregate-which-name : tie.Need-slice-aggregate-which-name
 slice-aggregate-which-name c =
-    sym (length-take-le (c .before .before .before .before .before .until-close .result - 1) (c .before .before .before .before .before .before .before .args .q .now) (omega (arith, c .before .before .before .before .if1 .left)))
+    let at-shared-slice-known2 = c .before .before in
+    let at-if1 = at-shared-slice-known2 .before .before in
+    let at-until-close = at-if1 .before in
+    let at-start = at-until-close .before .before in
+    sym (length-take-le (at-until-close .until-close .result - 1) (at-start .args .q .now) (omega (arith, at-if1 .if1 .left)))
 
 which-name-requires : tie.Need-which-name-requires
 which-name-requires c κs = search needs
 
 returns-4 : tie.Need-returns-4
-returns-4 c = (
-  name-unknown _ _ (c .before .before .before .before .before .before .before .until-close .ensures) _ (c .before .before .before .before .before .before .if1 .left) (c .before .before .before .before .before .if2 .left)
-      (c .before .before .before .if3 .left) (c .before .which-name .ensures) (c .if4 .taken),
-  plain-none _ _ _ (omega arith),
-)
+returns-4 c =
+    let at-which-name = c .before in
+    let at-if3 = at-which-name .before .before in
+    let at-if2 = at-if3 .before .before in
+    let at-if1 = at-if2 .before in
+    let at-until-close = at-if1 .before in (
+      name-unknown _ _ (at-until-close .until-close .ensures) _ (at-if1 .if1 .left) (at-if2 .if2 .left)
+          (at-if3 .if3 .left) (at-which-name .which-name .ensures) (c .if4 .taken),
+      plain-none _ _ _ (omega arith),
+    )
 
 add-t4 : tie.Need-add-t4
 add-t4 c = search needs
 
 returns-5 : tie.Need-returns-5
-returns-5 c = (
-  name-found _ _ (c .before .before .before .before .before .before .before .until-close .ensures) _ (c .before .before .before .before .before .before .if1 .left) (c .before .before .before .before .before .if2 .left)
-      (c .before .before .before .if3 .left) (c .before .which-name .ensures) (c .if4 .left),
-  plain-none _ _ _ (omega arith),
-)
+returns-5 c =
+    let at-which-name = c .before in
+    let at-if3 = at-which-name .before .before in
+    let at-if2 = at-if3 .before .before in
+    let at-if1 = at-if2 .before in
+    let at-until-close = at-if1 .before in (
+      name-found _ _ (at-until-close .until-close .ensures) _ (at-if1 .if1 .left) (at-if2 .if2 .left)
+          (at-if3 .if3 .left) (at-which-name .which-name .ensures) (c .if4 .left),
+      plain-none _ _ _ (omega arith),
+    )
 
 pub read-name-spec : {M : Type 1} → statement M
 read-name-spec =

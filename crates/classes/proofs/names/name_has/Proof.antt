@@ -2,7 +2,7 @@
 -- computed from the definition and compared here.
 use native.Mathlib.Omega.{arith}
 use borrow.Author.Needs.{needs}
-use Rattle.classes.specs.Names.{spans}
+use Rattle.classes.specs.Names.{table, spans}
 use Rattle.classes.proofs.NameLaws.{named-bit, named-above, named-none}
 use Rattle.classes.proofs.names.name_has.Statement.{statement}
 use Rattle.classes.proofs.names.name_has.Tie as tie
@@ -23,7 +23,7 @@ shr-result : tie.Need-shr-result
 shr-result c = search needs
 
 returns-2 : tie.Need-returns-2
-unfolding spans
+unfolding table spans
 returns-2 c = named-bit _ _ _ (omega arith) (c .if2 .taken) (c .before .row-at .ensures)
 
 returns-3 : tie.Need-returns-3

@@ -9,7 +9,8 @@ use lib.ListN.{length, getD}
 use borrow.Author.Tests.{eqb-false, not-true}
 use borrow.Author.Needs.{needs}
 use Rattle.classes.specs.Members.{untilClose}
-use Rattle.classes.proofs.MemberLaws.{from-drop, NotClose, first-goes-on, other-goes-on}
+use Rattle.bytestrings.proofs.SliceLaws.{from-drop}
+use Rattle.classes.proofs.MemberLaws.{NotClose, first-goes-on, other-goes-on}
 use Rattle.classes.proofs.MeasureLaws.{ReadTo, Turn, name-next, left-all, left-none, left-close, name-turn, plain-turn}
 use Rattle.classes.proofs.size.members_size.Statement.{statement}
 use Rattle.classes.proofs.size.members_size.Tie as tie
@@ -22,31 +23,55 @@ abbrev μ-loop : tie.MeasureT-loop
 
 -- past the test for `]`, by both of its ways
 goes-on : (d : tie.Joined1 Inv-loop μ-loop)
-    → NotClose (eqb (d .before .before .before .loop .i) 0) (getD (d .before .before .before .before .before .args .q .now) (d .before .before .before .loop .i) 0)
+    → let at-loop = d .before .before .before in
+    let at-start = at-loop .before .before in
+    NotClose (eqb (at-loop .loop .i) 0) (getD (at-start .args .q .now) (at-loop .loop .i) 0)
 goes-on d = ⊎-elim (λ w. first-goes-on _ _ (w .1 .left)) (λ w. other-goes-on _ _ (w .left)) (d .if1 .came)
 
 -- after the test for `[:`, which has room: the bytes and the place
 abbrev Q : tie.After-starts-name Inv-loop μ-loop → List ℕ
-Q d = d .before .before .before .before .before .before .before .args .q .now
+Q d =
+    let at-if1 = d .before .before in
+    let at-loop = at-if1 .before .before .before in
+    let at-start = at-loop .before .before in
+    at-start .args .q .now
 
 abbrev I : tie.After-starts-name Inv-loop μ-loop → ℕ
-I d = d .before .before .before .before .before .loop .i
+I d =
+    let at-if1 = d .before .before in
+    let at-loop = at-if1 .before .before .before in
+    at-loop .loop .i
 
 two : (d : tie.Then3 Inv-loop μ-loop) → I (d .before) + 2 ≤ length (Q (d .before))
 two d = name-next (Q (d .before)) _ (sym (d .before .starts-name .ensures) ∙ d .if3 .taken) .0
 
 -- what a `[:` begins is passed
-named : (d : tie.After-name-size Inv-loop μ-loop) → Turn (Q (d .before .before .before .before)) (I (d .before .before .before .before)) (d .name-size .result) (d .before .before .next-close .result)
+named : (d : tie.After-name-size Inv-loop μ-loop)
+    → let at-next-close = d .before .before in
+    let at-starts-name = at-next-close .before .before in
+    Turn (Q at-starts-name) (I at-starts-name) (d .name-size .result) (at-next-close .next-close .result)
 named d =
-    name-turn _ _ _ _ (omega arith) (d .before .before .before .before .before .before .before .before .before .loop .inv .1) (λ h. d .before .before .next-close .ensures)
-    (sym (d .before .before .before .before .starts-name .ensures) ∙ d .before .before .before .if3 .taken) (d .name-size .ensures)
+    let at-next-close = d .before .before in
+    let at-if3 = at-next-close .before in
+    let at-starts-name = at-if3 .before in
+    let at-if1 = at-starts-name .before .before in
+    let at-loop = at-if1 .before .before .before in
+    name-turn _ _ _ _ (omega arith) (at-loop .loop .inv .1) (λ h. at-next-close .next-close .ensures)
+    (sym (at-starts-name .starts-name .ensures) ∙ at-if3 .if3 .taken) (d .name-size .ensures)
 
 -- and any other member
-plain : (d : tie.After-plain-size Inv-loop μ-loop) → Turn (Q (d .before .before .before)) (I (d .before .before .before)) (d .plain-size .result)
-    (d .before .before .before .before .before .before .before .before .loop .close)
+plain : (d : tie.After-plain-size Inv-loop μ-loop)
+    → let at-starts-name = d .before .before .before in
+    let at-if1 = at-starts-name .before .before in
+    let at-loop = at-if1 .before .before .before in
+    Turn (Q at-starts-name) (I at-starts-name) (d .plain-size .result)
+    (at-loop .loop .close)
 plain d =
-    plain-turn _ _ _ _ (omega arith) (d .before .before .before .before .before .before .before .before .loop .inv .1) (d .before .before .before .before .before .before .before .before .loop .inv .2)
-    (goes-on (d .before .before .before .before .before)) (d .plain-size .ensures)
+    let at-starts-name = d .before .before .before in
+    let at-if1 = at-starts-name .before .before in
+    let at-loop = at-if1 .before .before .before in
+    plain-turn _ _ _ _ (omega arith) (at-loop .loop .inv .1) (at-loop .loop .inv .2)
+    (goes-on at-if1) (d .plain-size .ensures)
 
 loop-holds : tie.Need-loop-holds Inv-loop μ-loop
 loop-holds c = (search needs, left-all _, λ h. absurd (omega arith))
@@ -58,7 +83,11 @@ add-result : tie.Need-add-result Inv-loop μ-loop
 add-result c = search needs
 
 returns : tie.Need-returns Inv-loop μ-loop
-returns c = let h = left-close _ _ (omega arith) (omega arith) (eqb-false _ 0 (not-true _ (c .if2 .taken))) (c .before .before .before .before .loop .inv .1) in omega arith
+returns c =
+    let at-shared-slice-known2 = c .before .before in
+    let at-loop = at-shared-slice-known2 .before .before in
+    let h = left-close _ _ (omega arith) (omega arith) (eqb-false _ 0 (not-true _ (c .if2 .taken))) (at-loop .loop .inv .1) in
+    omega arith
 
 sub-starts-name : tie.Need-sub-starts-name Inv-loop μ-loop
 sub-starts-name c = search needs
@@ -76,7 +105,10 @@ add-next-close : tie.Need-add-next-close Inv-loop μ-loop
 add-next-close c = let h = two c in omega arith
 
 next-close-requires : tie.Need-next-close-requires Inv-loop μ-loop
-next-close-requires c κs = (two c, c .before .before .before .before .before .before .loop .inv .2)
+next-close-requires c κs =
+    let at-if1 = c .before .before .before in
+    let at-loop = at-if1 .before .before .before in
+    (two c, at-loop .loop .inv .2)
 
 add-name-size : tie.Need-add-name-size Inv-loop μ-loop
 add-name-size c = let h = two (c .before) in omega arith
@@ -97,7 +129,10 @@ sub-name-size-3 : tie.Need-sub-name-size-3 Inv-loop μ-loop
 sub-name-size-3 c = search needs
 
 name-size-requires : tie.Need-name-size-requires Inv-loop μ-loop
-name-size-requires c κs = let e = ap untilClose (from-drop (I (c .before .before .before) + 2) (Q (c .before .before .before))) in omega arith
+name-size-requires c κs =
+    let at-starts-name = c .before .before .before in
+    let e = ap untilClose (from-drop (I at-starts-name + 2) (Q at-starts-name)) in
+    omega arith
 
 returns-2 : tie.Need-returns-2 Inv-loop μ-loop
 returns-2 c = let h = named (c .before) .0 (c .if4 .taken) in omega arith

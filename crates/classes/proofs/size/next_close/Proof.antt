@@ -21,10 +21,18 @@ until-close-requires : tie.Need-until-close-requires
 until-close-requires c κs = search needs
 
 add-result : tie.Need-add-result
-add-result c = let h = close-from (c .before .before .before .before .args .q .now) (c .before .before .before .before .args .from) _ (omega arith) (c .until-close .ensures) in omega arith
+add-result c =
+    let at-if1 = c .before .before in
+    let at-start = at-if1 .before .before in
+    let h = close-from (at-start .args .q .now) (at-start .args .from) _ (omega arith) (c .until-close .ensures) in
+    omega arith
 
 returns-2 : tie.Need-returns-2
-returns-2 c = let h = close-from (c .before .before .before .before .args .q .now) (c .before .before .before .before .args .from) _ (omega arith) (c .until-close .ensures) in omega arith
+returns-2 c =
+    let at-if1 = c .before .before in
+    let at-start = at-if1 .before .before in
+    let h = close-from (at-start .args .q .now) (at-start .args .from) _ (omega arith) (c .until-close .ensures) in
+    omega arith
 
 pub next-close-spec : {M : Type 1} → statement M
 next-close-spec =

@@ -1,8 +1,8 @@
--- `classes::size::plain_size` meets its contract: each way out settles the tests of `nextMember`.
+-- `classes::size::plain_size` meets its contract: each return settles the tests of `nextMember`.
 use mathlib.Core.Path.{refl, subst}
 use native.Mathlib.Omega.{arith}
 use borrow.Author.Needs.{needs}
-use Rattle.classes.specs.Sizes.{Sized}
+use Rattle.classes.specs.inner.Sizes.{Sized}
 use Rattle.classes.proofs.MemberLaws.{first-goes-on, next-open, next-escaped}
 use Rattle.classes.proofs.MeasureLaws.{plain-single}
 use Rattle.classes.proofs.size.plain_size.Statement.{statement}
@@ -24,7 +24,10 @@ single-size-requires : tie.Need-single-size-requires
 single-size-requires c κs = search needs
 
 returns : tie.Need-returns
-returns c = plain-single _ _ (c .before .before .before .before .before .pre .1) (omega arith) (omega arith) (c .single-size .ensures)
+returns c =
+    let at-if1 = c .before .before in
+    let at-start = at-if1 .before .before .before in
+    plain-single _ _ (at-start .pre .1) (omega arith) (omega arith) (c .single-size .ensures)
 
 returns-2 : tie.Need-returns-2
 returns-2 c = subst (Sized _) (next-open _ _ (omega arith) (first-goes-on _ _ refl) (omega arith) (omega arith)) (omega arith)

@@ -1,8 +1,8 @@
--- `classes::size::single_size` meets its contract: each way out settles the tests of `single`.
+-- `classes::size::single_size` meets its contract: each return settles the tests of `single`.
 use mathlib.Core.Path.{subst}
 use native.Mathlib.Omega.{arith}
 use borrow.Author.Needs.{needs}
-use Rattle.classes.specs.Sizes.{Sized}
+use Rattle.classes.specs.inner.Sizes.{Sized}
 use Rattle.classes.proofs.MemberLaws.{single-short, single-plain, single-close, single-range, single-open, single-escaped}
 use Rattle.classes.proofs.size.single_size.Statement.{statement}
 use Rattle.classes.proofs.size.single_size.Tie as tie

@@ -5,6 +5,7 @@ use native.Mathlib.Omega.{arith}
 use lib.ListN.{List·getD-eq-default}
 use borrow.Author.Tests.{eq-eqb, ne-eqb}
 use borrow.Author.Needs.{needs}
+use Rattle.bytestrings.specs.Text.{char}
 use Rattle.classes.proofs.size.starts_name.Statement.{statement}
 use Rattle.classes.proofs.size.starts_name.Tie as tie
 
@@ -18,10 +19,10 @@ shared-slice-read-result : tie.Need-shared-slice-read-result
 shared-slice-read-result c = search needs
 
 returns-2 : tie.Need-returns-2
-returns-2 c = rw (eq-eqb _ 91 (c .before .if2 .taken)) refl
+returns-2 c = rw (eq-eqb _ (char "[") (c .before .if2 .taken)) refl
 
 returns-3 : tie.Need-returns-3
-returns-3 c = rw (ne-eqb _ 91 (c .if2 .left)) refl
+returns-3 c = rw (ne-eqb _ (char "[") (c .if2 .left)) refl
 
 pub starts-name-spec : {M : Type 1} → statement M
 starts-name-spec =

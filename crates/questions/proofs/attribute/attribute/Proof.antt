@@ -16,14 +16,21 @@ flag-one-requires c κs = search needs
 flag-two-requires : tie.Need-flag-two-requires
 flag-two-requires c κs = search needs
 
-path-heard-requires : tie.Need-path-heard-requires
-path-heard-requires c κs = search needs
+attribute-state-requires : tie.Need-attribute-state-requires
+attribute-state-requires c κs = search needs
 
-spoken-requires : tie.Need-spoken-requires
-spoken-requires c κs = search needs
+state-answer-requires : tie.Need-state-answer-requires
+state-answer-requires c κs = search needs
 
 returns-2 : tie.Need-returns-2
-returns-2 c = attribute-answered _ _ _ _ _ _ _ _ _ _ _ (c .before .before .before .before .before .attribute-refusal .ensures) (c .before .before .before .before .if1 .left) (c .before .before .before .flag-one .ensures) (c .before .before .flag-two .ensures) (c .before .path-heard .ensures) (c .spoken .ensures)
+returns-2 c =
+    let at-attribute-state = c .before in
+    let at-flag-two = at-attribute-state .before in
+    let at-flag-one = at-flag-two .before in
+    let at-if1 = at-flag-one .before in
+    let at-attribute-refusal = at-if1 .before in
+    attribute-answered _ _ _ _ _ _ _ _ _ _ _ (at-attribute-refusal .attribute-refusal .ensures) (at-if1 .if1 .left) (at-flag-one .flag-one .ensures) (at-flag-two .flag-two .ensures)
+    (at-attribute-state .attribute-state .ensures) (c .state-answer .ensures)
 
 pub attribute-spec : {M : Type 1} → statement M
 attribute-spec =
@@ -33,6 +40,6 @@ attribute-spec =
     returns
     flag-one-requires
     flag-two-requires
-    path-heard-requires
-    spoken-requires
+    attribute-state-requires
+    state-answer-requires
     returns-2)

@@ -20,7 +20,12 @@ judge-path-requires : tie.Need-judge-path-requires
 judge-path-requires c κs = search needs
 
 returns-2 : tie.Need-returns-2
-returns-2 c = ignore-answered _ _ _ _ _ _ _ _ _ (c .before .before .before .before .ignore-refusal .ensures) (c .before .before .before .if1 .left) (c .before .before .flag-one .ensures) (c .before .flag-two .ensures) (c .judge-path .ensures)
+returns-2 c =
+    let at-flag-two = c .before in
+    let at-flag-one = at-flag-two .before in
+    let at-if1 = at-flag-one .before in
+    let at-ignore-refusal = at-if1 .before in
+    ignore-answered _ _ _ _ _ _ _ _ _ (at-ignore-refusal .ignore-refusal .ensures) (at-if1 .if1 .left) (at-flag-one .flag-one .ensures) (at-flag-two .flag-two .ensures) (c .judge-path .ensures)
 
 pub ignore-spec : {M : Type 1} → statement M
 ignore-spec =

@@ -6,26 +6,26 @@ use lib.ListN.{length}
 use Rattle.rulefiles.specs.RuleFiles.{orderedLines}
 use Rattle.questions.specs.Verdicts.{verdict, parents, judged}
 use Rattle.questions.specs.Complete.{completeIgnore}
-use Rattle.questions.specs.Scan.{aboveOf}
-use Rattle.questions.specs.declared.Decided.{Decided}
-use Rattle.questions.specs.declared.ignore.Above.{Above}
+use Rattle.questions.specs.inner.Scan.{ignoredParentOf}
+use Rattle.questions.specs.declared.DecidedEntry.{DecidedEntry}
+use Rattle.questions.specs.declared.ignore.IgnoredParent.{IgnoredParent}
 use Rattle.questions.proofs.VerdictLaws.{entryOf}
 use Rattle.questions.proofs.ParentLaws.{answerOr, top-down}
 use borrow.Author.Needs.{needs}
 use Rattle.questions.proofs.ignore.judge_path.Statement.{statement}
 use Rattle.questions.proofs.ignore.judge_path.Tie as tie
 
-ignored-above-requires : tie.Need-ignored-above-requires
-ignored-above-requires c κs = search needs
+first-ignored-parent-requires : tie.Need-first-ignored-parent-requires
+first-ignored-parent-requires c κs = search needs
 
-enum-known-above : tie.Need-enum-known-above
-enum-known-above c = search needs
+enum-known-parent : tie.Need-enum-known-parent
+enum-known-parent c = search needs
 
 enum-told : tie.Need-enum-told
 enum-told c = search needs
 
-entry-said-requires : tie.Need-entry-said-requires
-entry-said-requires c κs = search needs
+entry-verdict-requires : tie.Need-entry-verdict-requires
+entry-verdict-requires c κs = search needs
 
 judge-requires : tie.Need-judge-requires
 judge-requires c κs = search needs
@@ -33,34 +33,40 @@ judge-requires c κs = search needs
 returns : tie.Need-returns
 unfolding completeIgnore
 returns c =
-    let u = c .before .before .before in
-    let a = u .before .before .before .before .before .args in
+    let at-parent = c .before in
+    let at-first-ignored-parent = at-parent .before .before in
+    let at-shared-slice-known2 = at-first-ignored-parent .before .before .before in
+    let at-start = at-shared-slice-known2 .before .before in
+    let a = at-start .args in
     let v = verdict (a .fold) (orderedLines (now (a .rules)) (now (a .ends)) (now (a .bases))) in
     let e = entryOf (now (a .path)) (a .directory) in
-    sym (ap (λ (o : Above). answerOr v (aboveOf o) (judged (length (now (a .path))) (v e))) (c .before .above .given .1))
-    ∙ ap (λ (o : Option Decided). answerOr v o (judged (length (now (a .path))) (v e))) (u .ignored-above .ensures)
+    sym (ap (λ (o : IgnoredParent). answerOr v (ignoredParentOf o) (judged (length (now (a .path))) (v e))) (at-parent .parent .given .1))
+    ∙ ap (λ (o : Option DecidedEntry). answerOr v o (judged (length (now (a .path))) (v e))) (at-first-ignored-parent .first-ignored-parent .ensures)
     ∙ top-down v (parents (now (a .path))) e
 
 returns-2 : tie.Need-returns-2
 returns-2 c =
-    let t = c .before .before in
-    let u = t .before .before in
-    let a = u .before .before .before .before .before .args in
+    let at-entry-verdict = c .before in
+    let at-enum-told = at-entry-verdict .before in
+    let at-first-ignored-parent = at-enum-told .before .before in
+    let at-shared-slice-known2 = at-first-ignored-parent .before .before .before in
+    let at-start = at-shared-slice-known2 .before .before in
+    let a = at-start .args in
     let v = verdict (a .fold) (orderedLines (now (a .rules)) (now (a .ends)) (now (a .bases))) in
     let e = entryOf (now (a .path)) (a .directory) in
-    c .judge .ensures ∙ ap (judged (length (now (a .path)))) (c .before .entry-said .ensures)
-    ∙ sym (ap (λ (o : Above). answerOr v (aboveOf o) (judged (length (now (a .path))) (v e))) (t .enum-told .given .1))
-    ∙ ap (λ (o : Option Decided). answerOr v o (judged (length (now (a .path))) (v e))) (u .ignored-above .ensures)
+    c .judge .ensures ∙ ap (judged (length (now (a .path)))) (at-entry-verdict .entry-verdict .ensures)
+    ∙ sym (ap (λ (o : IgnoredParent). answerOr v (ignoredParentOf o) (judged (length (now (a .path))) (v e))) (at-enum-told .enum-told .given .1))
+    ∙ ap (λ (o : Option DecidedEntry). answerOr v o (judged (length (now (a .path))) (v e))) (at-first-ignored-parent .first-ignored-parent .ensures)
     ∙ top-down v (parents (now (a .path))) e
 
 pub judge-path-spec : {M : Type 1} → statement M
 judge-path-spec =
     tie.close
     (tie.spec
-    ignored-above-requires
-    enum-known-above
+    first-ignored-parent-requires
+    enum-known-parent
     enum-told
-    entry-said-requires
+    entry-verdict-requires
     judge-requires
     returns
     returns-2)

@@ -21,7 +21,12 @@ bom-length-requires : tie.Need-bom-length-requires
 bom-length-requires c κs = search needs
 
 add-result : tie.Need-add-result
-add-result c = let s = now (c .before .before .before .before .args .upto) in let at = c .before .before .before .before .args .start in omega (arith, c .bom-length .ensures, bom-small (take (length s - at) (drop at s)))
+add-result c =
+    let at-if1 = c .before .before in
+    let at-start = at-if1 .before .before in
+    let s = now (at-start .args .upto) in
+    let at = at-start .args .start in
+    omega (arith, c .bom-length .ensures, bom-small (take (length s - at) (drop at s)))
 
 returns : tie.Need-returns
 returns c = content-inside _ _ _ (c .bom-length .ensures)

@@ -1,5 +1,5 @@
--- `questions::verdict::after_file` meets its contract: what was said before a line is joined by what the lines from there on say.
-use Rattle.questions.specs.Scan.{ignoreAt, decisionOf, saidAt, lastIn, lastInFile}
+-- `questions::verdict::after_file` meets its contract: the decision before a line is overridden by that of the lines from there on.
+use Rattle.questions.specs.inner.Scan.{ignoreAt, verdictDecisionOf, decisionAt, lastIn, lastInFile}
 use Prim.Native.Nat.{_+_, _-_, _≤_}
 use native.Mathlib.Omega.{arith}
 use mathlib.Core.Path.{_≡_, sym, ap, _∙_}
@@ -7,8 +7,9 @@ use mathlib.Core.Option.{Option}
 use borrow.Author.Needs.{needs}
 use denote.Ref.{now}
 use lib.ListN.{length, drop, length-drop}
+use Rattle.entries.specs.Entries.{against}
 use Rattle.rulefiles.specs.RuleFiles.{split}
-use Rattle.rulefiles.specs.Last.{joined}
+use Rattle.rulefiles.specs.Decisions.{override}
 use Rattle.rulefiles.proofs.LineLaws.{line-fits}
 use Rattle.ignorelines.specs.IgnoreLines.{Verdict}
 use Rattle.questions.proofs.ScanLaws.{line-turn, lines-end, file-begin}
@@ -16,18 +17,27 @@ use Rattle.questions.proofs.verdict.after_file.Statement.{statement}
 use Rattle.questions.proofs.verdict.after_file.Tie as tie
 
 abbrev Inv-loop : tie.InvT-loop
-Inv-loop upto start file rest component directory fold said₀ i₀ line₀ said i line =
-    (line ≤ i + 1) × (joined (decisionOf said₀) (lastInFile (ignoreAt fold directory rest component) file upto start) ≡ joined (decisionOf said) (lastIn (ignoreAt fold directory rest component) file line i (split (drop i upto))))
+Inv-loop upto start file rest component directory fold last₀ i₀ line₀ last i line =
+    (line ≤ i + 1) × (override (verdictDecisionOf last₀) (lastInFile (ignoreAt (against rest component directory fold)) file upto start)
+    ≡ override (verdictDecisionOf last) (lastIn (ignoreAt (against rest component directory fold)) file line i (split (drop i upto))))
 
 abbrev μ-loop : tie.MeasureT-loop
-μ-loop upto start file rest component directory fold said₀ i₀ line₀ said i line = length upto - i
+μ-loop upto start file rest component directory fold last₀ i₀ line₀ last i line = length upto - i
 
 -- the line ends within the rules
-within : (c : tie.After-line-end Inv-loop μ-loop) → c .line-end .result ≤ length (now (c .before .before .before .before .before .before .before .args .upto))
+within : (c : tie.After-line-end Inv-loop μ-loop)
+    → let at-content-start = c .before .before .before in
+    let at-shared-slice-known2 = at-content-start .before .before in
+    let at-start = at-shared-slice-known2 .before .before in
+    c .line-end .result ≤ length (now (at-start .args .upto))
 within c =
-    let s = now (c .before .before .before .before .before .before .before .args .upto) in
-    let i = c .before .before .loop .i in
-    omega (arith, c .line-end .ensures, line-fits (drop i s), length-drop i s, c .before .loop-test .taken)
+    let at-loop-test = c .before in
+    let at-loop = at-loop-test .before in
+    let at-shared-slice-known2 = at-loop .before .before .before in
+    let at-start = at-shared-slice-known2 .before .before in
+    let s = now (at-start .args .upto) in
+    let i = at-loop .loop .i in
+    omega (arith, c .line-end .ensures, line-fits (drop i s), length-drop i s, at-loop-test .loop-test .taken)
 
 content-start-requires : tie.Need-content-start-requires Inv-loop μ-loop
 content-start-requires c κs = search needs
@@ -38,17 +48,17 @@ loop-holds c = (omega arith, file-begin _ _ _ _ _ _ (c .content-start .ensures))
 line-end-requires : tie.Need-line-end-requires Inv-loop μ-loop
 line-end-requires c κs = search needs
 
-sub-line-word : tie.Need-sub-line-word Inv-loop μ-loop
-sub-line-word c = omega (arith, c .line-end .ensures)
+sub-line-effect : tie.Need-sub-line-effect Inv-loop μ-loop
+sub-line-effect c = omega (arith, c .line-end .ensures)
 
-part-line-word-start : tie.Need-part-line-word-start Inv-loop μ-loop
-part-line-word-start c = omega (arith, c .line-end .ensures)
+part-line-effect-start : tie.Need-part-line-effect-start Inv-loop μ-loop
+part-line-effect-start c = omega (arith, c .line-end .ensures)
 
-part-line-word-end : tie.Need-part-line-word-end Inv-loop μ-loop
-part-line-word-end c = within c
+part-line-effect-end : tie.Need-part-line-effect-end Inv-loop μ-loop
+part-line-effect-end c = within c
 
-line-word-requires : tie.Need-line-word-requires Inv-loop μ-loop
-line-word-requires c κs = search needs
+line-effect-requires : tie.Need-line-effect-requires Inv-loop μ-loop
+line-effect-requires c κs = search needs
 
 after-line-requires : tie.Need-after-line-requires Inv-loop μ-loop
 after-line-requires c κs = search needs
@@ -57,27 +67,46 @@ add-i : tie.Need-add-i Inv-loop μ-loop
 add-i c = omega (arith, within (c .before .before .before))
 
 add-line : tie.Need-add-line Inv-loop μ-loop
-add-line c = omega (arith, c .before .before .before .before .before .loop .inv .0, c .before .before .before .before .loop-test .taken)
+add-line c =
+    let at-line-effect-arg = c .before .before in
+    let at-loop-test = at-line-effect-arg .before .before in
+    let at-loop = at-loop-test .before in
+    omega (arith, at-loop .loop .inv .0, at-loop-test .loop-test .taken)
 
 loop-less : tie.Need-loop-less Inv-loop μ-loop
-loop-less c = omega (arith, c .before .before .before .before .loop-test .taken, c .before .before .before .line-end .ensures)
+loop-less c =
+    let at-line-end = c .before .before .before in
+    let at-loop-test = at-line-end .before in
+    omega (arith, at-loop-test .loop-test .taken, at-line-end .line-end .ensures)
 
 loop-again : tie.Need-loop-again Inv-loop μ-loop
 unfolding ignoreAt
 loop-again c =
-    let l = c .before .before .before .before .before in
-    let a = l .before .before .before .before .before .args in
-    let e = c .before .before .before in
-    let w = ignoreAt (a .fold) (a .directory) (now (a .rest)) (now (a .component)) in (
-      omega (arith, l .loop .inv .0, e .line-end .ensures),
-      l .loop .inv .1
-          ∙ line-turn w (a .file) (now (a .upto)) (l .loop .line) (l .loop .i) (e .line-end .result) (decisionOf (l .loop .said)) (decisionOf (c .after-line .result))
-          (e .before .loop-test .taken) (e .line-end .ensures)
-          (c .after-line .ensures ∙ ap (λ (o : Option Verdict). joined (decisionOf (l .loop .said)) (saidAt (a .file) (l .loop .line) o)) (c .before .line-word .ensures)),
+    let at-line-effect = c .before in
+    let at-line-end = at-line-effect .before .before in
+    let at-loop-test = at-line-end .before in
+    let at-loop = at-loop-test .before in
+    let at-shared-slice-known2 = at-loop .before .before .before in
+    let at-start = at-shared-slice-known2 .before .before in
+    let a = at-start .args in
+    let w = ignoreAt (against (now (a .rest)) (now (a .component)) (a .directory) (a .fold)) in (
+      omega (arith, at-loop .loop .inv .0, at-line-end .line-end .ensures),
+      at-loop .loop .inv .1
+          ∙ line-turn w (a .file) (now (a .upto)) (at-loop .loop .line) (at-loop .loop .i) (at-line-end .line-end .result) (verdictDecisionOf (at-loop .loop .last))
+          (verdictDecisionOf (c .after-line .result))
+          (at-loop-test .loop-test .taken) (at-line-end .line-end .ensures)
+          (c .after-line .ensures
+          ∙ ap (λ (o : Option Verdict). override (verdictDecisionOf (at-loop .loop .last)) (decisionAt (a .file) (at-loop .loop .line) o)) (at-line-effect .line-effect .ensures)),
     )
 
 returns : tie.Need-returns Inv-loop μ-loop
-returns c = let l = c .before in let a = l .before .before .before .before .before .args in sym (l .loop .inv .1 ∙ lines-end (ignoreAt (a .fold) (a .directory) (now (a .rest)) (now (a .component))) (a .file) (now (a .upto)) (l .loop .line) (l .loop .i) (decisionOf (l .loop .said)) (c .loop-test .left))
+returns c =
+    let at-loop = c .before in
+    let at-shared-slice-known2 = at-loop .before .before .before in
+    let at-start = at-shared-slice-known2 .before .before in
+    let a = at-start .args in
+    sym (at-loop .loop .inv .1 ∙ lines-end (ignoreAt (against (now (a .rest)) (now (a .component)) (a .directory) (a .fold))) (a .file) (now (a .upto)) (at-loop .loop .line) (at-loop .loop .i)
+    (verdictDecisionOf (at-loop .loop .last)) (c .loop-test .left))
 
 pub after-file-spec : {M : Type 1} → statement M
 after-file-spec =
@@ -88,10 +117,10 @@ after-file-spec =
     content-start-requires
     loop-holds
     line-end-requires
-    sub-line-word
-    part-line-word-start
-    part-line-word-end
-    line-word-requires
+    sub-line-effect
+    part-line-effect-start
+    part-line-effect-end
+    line-effect-requires
     after-line-requires
     add-i
     add-line

@@ -1,4 +1,4 @@
--- `questions::verdict::after_line` meets its contract: a line that speaks stands in for what was said before.
+-- `questions::verdict::after_line` meets its contract: a line that has an effect overrides what was decided before.
 use borrow.Author.Needs.{needs}
 use Rattle.questions.proofs.verdict.after_line.Statement.{statement}
 use Rattle.questions.proofs.verdict.after_line.Tie as tie

@@ -1,7 +1,7 @@
 -- `refusals::lists::bases_bad` meets its contract. The bases not yet passed say the same as all.
-use Rattle.refusals.specs.Questions.{BaseMisplaced}
+use Rattle.refusals.specs.Conditions.{BaseMisplaced}
 use Rattle.refusals.proofs.ListLaws.{base-here, base-good, base-none}
-use Rattle.refusals.proofs.Says.{says, denies, said-false}
+use Rattle.bytestrings.proofs.BoolLaws.{yes-iff, no-iff, not-if-false}
 use mathlib.Core.Logic.{_↔_, Iff·rfl, Iff·trans}
 use borrow.Author.Needs.{needs}
 use Prim.Native.Nat.{_-_}
@@ -29,7 +29,11 @@ base-bad-requires : tie.Need-base-bad-requires Inv-loop μ-loop
 base-bad-requires c κs = search needs
 
 returns : tie.Need-returns Inv-loop μ-loop
-returns c = says (c .before .before .before .before .loop .inv .1 (base-here _ _ _ (c .before .before .before .loop-test .taken) (c .before .base-bad .ensures .0 (c .if1 .taken))))
+returns c =
+    let at-base-bad = c .before in
+    let at-loop-test = at-base-bad .before .before in
+    let at-loop = at-loop-test .before in
+    yes-iff (at-loop .loop .inv .1 (base-here _ _ _ (at-loop-test .loop-test .taken) (at-base-bad .base-bad .ensures .0 (c .if1 .taken))))
 
 add-i : tie.Need-add-i Inv-loop μ-loop
 add-i c = omega arith
@@ -38,10 +42,14 @@ loop-less : tie.Need-loop-less Inv-loop μ-loop
 loop-less c = omega arith
 
 loop-again : tie.Need-loop-again Inv-loop μ-loop
-loop-again c = Iff·trans (c .before .before .before .before .loop .inv) (base-good _ _ _ (c .before .before .before .loop-test .taken) (said-false (c .before .base-bad .ensures) (c .if1 .left)))
+loop-again c =
+    let at-base-bad = c .before in
+    let at-loop-test = at-base-bad .before .before in
+    let at-loop = at-loop-test .before in
+    Iff·trans (at-loop .loop .inv) (base-good _ _ _ (at-loop-test .loop-test .taken) (not-if-false (at-base-bad .base-bad .ensures) (c .if1 .left)))
 
 returns-2 : tie.Need-returns-2 Inv-loop μ-loop
-returns-2 c = denies (λ b. base-none _ _ _ (c .loop-test .left) (c .before .loop .inv .0 b))
+returns-2 c = no-iff (λ b. base-none _ _ _ (c .loop-test .left) (c .before .loop .inv .0 b))
 
 pub bases-bad-spec : {M : Type 1} → statement M
 bases-bad-spec =

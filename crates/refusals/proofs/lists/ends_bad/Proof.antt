@@ -1,6 +1,6 @@
 -- `refusals::lists::ends_bad` meets its contract. The ends not yet passed, behind the last one passed, say the same as all.
 use Rattle.refusals.proofs.ListLaws.{EndsSo, ends-begin, ends-next, ends-fall, ends-end}
-use Rattle.refusals.proofs.Says.{says}
+use Rattle.bytestrings.proofs.BoolLaws.{yes-iff}
 use mathlib.Core.Logic.{inl}
 use borrow.Author.Needs.{needs}
 use Prim.Native.Nat.{_-_}
@@ -25,7 +25,10 @@ shared-slice-read-end : tie.Need-shared-slice-read-end Inv-loop μ-loop
 shared-slice-read-end c = omega arith
 
 returns : tie.Need-returns Inv-loop μ-loop
-returns c = says (inl (ends-fall _ _ _ (c .before .before .loop-test .taken) (c .if1 .taken) (c .before .before .before .loop .inv)))
+returns c =
+    let at-loop-test = c .before .before in
+    let at-loop = at-loop-test .before in
+    yes-iff (inl (ends-fall _ _ _ (at-loop-test .loop-test .taken) (c .if1 .taken) (at-loop .loop .inv)))
 
 add-i : tie.Need-add-i Inv-loop μ-loop
 add-i c = omega arith
@@ -34,7 +37,10 @@ loop-less : tie.Need-loop-less Inv-loop μ-loop
 loop-less c = omega arith
 
 loop-again : tie.Need-loop-again Inv-loop μ-loop
-loop-again c = ends-next _ _ _ (c .before .before .loop-test .taken) (c .if1 .left) (c .before .before .before .loop .inv)
+loop-again c =
+    let at-loop-test = c .before .before in
+    let at-loop = at-loop-test .before in
+    ends-next _ _ _ (at-loop-test .loop-test .taken) (c .if1 .left) (at-loop .loop .inv)
 
 returns-2 : tie.Need-returns-2 Inv-loop μ-loop
 returns-2 c = ends-end _ _ _ _ (c .loop-test .left) (c .before .loop .inv)

@@ -1,8 +1,8 @@
 -- `refusals::lowest::ignore_refusal` meets its contract: the tests of the lent path and rules, then the flags.
-use Rattle.refusals.specs.Tests.{done, test, lentTests, LentTold}
+use Rattle.refusals.specs.inner.Checks.{done, check, lentChecks, LentFirstHolding}
 use Rattle.refusals.specs.Refusals.{FlagsHigh}
-use Rattle.refusals.proofs.Says.{said-false}
-use Rattle.refusals.proofs.LowestLaws.{told-first, told-second, ignore-found}
+use Rattle.bytestrings.proofs.BoolLaws.{not-if-false}
+use Rattle.refusals.proofs.LowestLaws.{holding-first, holding-second, ignore-found}
 use mathlib.Core.Path.{refl}
 use mathlib.Core.Logic.{inl, inr}
 use borrow.Author.Needs.{needs}
@@ -13,19 +13,39 @@ lent-refusal-requires : tie.Need-lent-refusal-requires
 lent-refusal-requires c κs = search needs
 
 returns : tie.Need-returns
-unfolding LentTold
-returns c = ignore-found _ _ _ _ _ _ (told-first (lentTests (c .before .before .before .before .before .before .args .path .now) (c .before .before .before .before .before .before .args .rules .now) (c .before .before .before .before .before .before .args .ends .now) (c .before .before .before .before .before .before .args .bases .now)) (test 9 (FlagsHigh (c .before .before .before .before .before .before .args .flags)) done) _ (c .before .lent-refusal .ensures) (c .if1 .taken))
+unfolding LentFirstHolding
+returns c =
+    let at-lent-refusal = c .before in
+    let at-shared-slice-known2 = at-lent-refusal .before .before .before in
+    let at-start = at-shared-slice-known2 .before .before in
+    ignore-found _ _ _ _ _ _ (holding-first (lentChecks (at-start .args .path .now) (at-start .args .rules .now) (at-start .args .ends .now) (at-start .args .bases .now))
+    (check 9 (FlagsHigh (at-start .args .flags)) done) _ (at-lent-refusal .lent-refusal .ensures) (c .if1 .taken))
 
 flags-high-requires : tie.Need-flags-high-requires
 flags-high-requires c κs = search needs
 
 returns-2 : tie.Need-returns-2
-unfolding LentTold
-returns-2 c = ignore-found _ _ _ _ _ _ (told-second (lentTests (c .before .before .before .before .before .before .before .before .args .path .now) (c .before .before .before .before .before .before .before .before .args .rules .now) (c .before .before .before .before .before .before .before .before .args .ends .now) (c .before .before .before .before .before .before .before .before .args .bases .now)) (test 9 (FlagsHigh (c .before .before .before .before .before .before .before .before .args .flags)) done) 0 _ 9 refl (c .before .before .before .lent-refusal .ensures) (c .before .before .if1 .left) (inl (refl, c .before .flags-high .ensures .0 (c .if2 .taken))))
+unfolding LentFirstHolding
+returns-2 c =
+    let at-flags-high = c .before in
+    let at-if1 = at-flags-high .before in
+    let at-lent-refusal = at-if1 .before in
+    let at-shared-slice-known2 = at-lent-refusal .before .before .before in
+    let at-start = at-shared-slice-known2 .before .before in
+    ignore-found _ _ _ _ _ _ (holding-second (lentChecks (at-start .args .path .now) (at-start .args .rules .now) (at-start .args .ends .now) (at-start .args .bases .now))
+    (check 9 (FlagsHigh (at-start .args .flags)) done) 0 _ 9 refl (at-lent-refusal .lent-refusal .ensures) (at-if1 .if1 .left) (inl (refl, at-flags-high .flags-high .ensures .0 (c .if2 .taken))))
 
 returns-3 : tie.Need-returns-3
-unfolding LentTold
-returns-3 c = ignore-found _ _ _ _ _ _ (told-second (lentTests (c .before .before .before .before .before .before .before .before .args .path .now) (c .before .before .before .before .before .before .before .before .args .rules .now) (c .before .before .before .before .before .before .before .before .args .ends .now) (c .before .before .before .before .before .before .before .before .args .bases .now)) (test 9 (FlagsHigh (c .before .before .before .before .before .before .before .before .args .flags)) done) 0 _ 0 refl (c .before .before .before .lent-refusal .ensures) (c .before .before .if1 .left) (inr (said-false (c .before .flags-high .ensures) (c .if2 .left), refl)))
+unfolding LentFirstHolding
+returns-3 c =
+    let at-flags-high = c .before in
+    let at-if1 = at-flags-high .before in
+    let at-lent-refusal = at-if1 .before in
+    let at-shared-slice-known2 = at-lent-refusal .before .before .before in
+    let at-start = at-shared-slice-known2 .before .before in
+    ignore-found _ _ _ _ _ _ (holding-second (lentChecks (at-start .args .path .now) (at-start .args .rules .now) (at-start .args .ends .now) (at-start .args .bases .now))
+    (check 9 (FlagsHigh (at-start .args .flags)) done) 0 _ 0 refl (at-lent-refusal .lent-refusal .ensures) (at-if1 .if1 .left)
+    (inr (not-if-false (at-flags-high .flags-high .ensures) (c .if2 .left), refl)))
 
 pub ignore-refusal-spec : {M : Type 1} → statement M
 ignore-refusal-spec =

@@ -1,6 +1,6 @@
 -- `refusals::name::name_bad` meets its contract.
-use Rattle.refusals.specs.Questions.{BadName}
-use Rattle.refusals.proofs.Says.{says}
+use Rattle.refusals.specs.Conditions.{BadName}
+use Rattle.bytestrings.proofs.BoolLaws.{yes-iff}
 use Rattle.refusals.proofs.NameLaws.{name-bad}
 use mathlib.Core.Logic.{inl}
 use borrow.Author.Needs.{needs}
@@ -9,7 +9,7 @@ use Rattle.refusals.proofs.name.name_bad.Tie as tie
 
 returns : tie.Need-returns
 unfolding BadName
-returns c = says (inl (c .if1 .taken))
+returns c = yes-iff (inl (c .if1 .taken))
 
 name-good-requires : tie.Need-name-good-requires
 name-good-requires c κs = search needs

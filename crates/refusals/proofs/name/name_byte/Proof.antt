@@ -14,22 +14,57 @@ between-requires-2 : tie.Need-between-requires-2
 between-requires-2 c κs = search needs
 
 returns-2 : tie.Need-returns-2
-returns-2 c = byte-capital _ _ (c .before .before .before .between .ensures) (c .before .before .if1 .left) _ (c .before .between2 .ensures) (c .if2 .taken)
+returns-2 c =
+    let at-between2 = c .before in
+    let at-if1 = at-between2 .before in
+    let at-between = at-if1 .before in
+    byte-capital _ _ (at-between .between .ensures) (at-if1 .if1 .left) _ (at-between2 .between2 .ensures) (c .if2 .taken)
 
 between-requires-3 : tie.Need-between-requires-3
 between-requires-3 c κs = search needs
 
 returns-3 : tie.Need-returns-3
-returns-3 c = byte-digit _ _ (c .before .before .before .before .before .between .ensures) (c .before .before .before .before .if1 .left) _ (c .before .before .before .between2 .ensures) (c .before .before .if2 .left) _ (c .before .between3 .ensures) (c .if3 .taken)
+returns-3 c =
+    let at-between3 = c .before in
+    let at-if2 = at-between3 .before in
+    let at-between2 = at-if2 .before in
+    let at-if1 = at-between2 .before in
+    let at-between = at-if1 .before in
+    byte-digit _ _ (at-between .between .ensures) (at-if1 .if1 .left) _ (at-between2 .between2 .ensures) (at-if2 .if2 .left) _ (at-between3 .between3 .ensures) (c .if3 .taken)
 
 returns-4 : tie.Need-returns-4
-returns-4 c = byte-hyphen _ _ (c .before .before .before .before .before .before .between .ensures) (c .before .before .before .before .before .if1 .left) _ (c .before .before .before .before .between2 .ensures) (c .before .before .before .if2 .left) _ (c .before .before .between3 .ensures) (c .before .if3 .left) (c .if4 .taken)
+returns-4 c =
+    let at-if3 = c .before in
+    let at-between3 = at-if3 .before in
+    let at-if2 = at-between3 .before in
+    let at-between2 = at-if2 .before in
+    let at-if1 = at-between2 .before in
+    let at-between = at-if1 .before in
+    byte-hyphen _ _ (at-between .between .ensures) (at-if1 .if1 .left) _ (at-between2 .between2 .ensures) (at-if2 .if2 .left) _ (at-between3 .between3 .ensures) (at-if3 .if3 .left) (c .if4 .taken)
 
 returns-5 : tie.Need-returns-5
-returns-5 c = byte-stop _ _ (c .before .before .before .before .before .before .before .between .ensures) (c .before .before .before .before .before .before .if1 .left) _ (c .before .before .before .before .before .between2 .ensures) (c .before .before .before .before .if2 .left) _ (c .before .before .before .between3 .ensures) (c .before .before .if3 .left) (c .before .if4 .left) (c .if5 .taken)
+returns-5 c =
+    let at-if4 = c .before in
+    let at-if3 = at-if4 .before in
+    let at-between3 = at-if3 .before in
+    let at-if2 = at-between3 .before in
+    let at-between2 = at-if2 .before in
+    let at-if1 = at-between2 .before in
+    let at-between = at-if1 .before in
+    byte-stop _ _ (at-between .between .ensures) (at-if1 .if1 .left) _ (at-between2 .between2 .ensures) (at-if2 .if2 .left)
+    _ (at-between3 .between3 .ensures) (at-if3 .if3 .left) (at-if4 .if4 .left) (c .if5 .taken)
 
 returns-6 : tie.Need-returns-6
-returns-6 c = byte-last _ _ (c .before .before .before .before .before .before .before .between .ensures) (c .before .before .before .before .before .before .if1 .left) _ (c .before .before .before .before .before .between2 .ensures) (c .before .before .before .before .if2 .left) _ (c .before .before .before .between3 .ensures) (c .before .before .if3 .left) (c .before .if4 .left) (c .if5 .left)
+returns-6 c =
+    let at-if4 = c .before in
+    let at-if3 = at-if4 .before in
+    let at-between3 = at-if3 .before in
+    let at-if2 = at-between3 .before in
+    let at-between2 = at-if2 .before in
+    let at-if1 = at-between2 .before in
+    let at-between = at-if1 .before in
+    byte-last _ _ (at-between .between .ensures) (at-if1 .if1 .left) _ (at-between2 .between2 .ensures) (at-if2 .if2 .left)
+    _ (at-between3 .between3 .ensures) (at-if3 .if3 .left) (at-if4 .if4 .left) (c .if5 .left)
 
 pub name-byte-spec : {M : Type 1} → statement M
 name-byte-spec =

@@ -1,5 +1,5 @@
 -- `refusals::name::name_good` meets its contract. The bytes not yet passed decide.
-use Rattle.refusals.specs.Questions.{nameBytes, goodName}
+use Rattle.refusals.specs.Conditions.{nameBytes, goodName}
 use Rattle.refusals.proofs.NameLaws.{name-none, name-hyphen, name-begin, name-other, name-next, name-end}
 use mathlib.Core.Path.{_≡_, sym, _∙_}
 use borrow.Author.Needs.{needs}
@@ -23,10 +23,16 @@ shared-slice-read-if2 : tie.Need-shared-slice-read-if2 Inv-loop μ-loop
 shared-slice-read-if2 c = omega arith
 
 returns-2 : tie.Need-returns-2 Inv-loop μ-loop
-returns-2 c = name-hyphen (c .before .before .before .before .args .name .now) (c .if2 .taken)
+returns-2 c =
+    let at-if1 = c .before .before in
+    let at-start = at-if1 .before .before in
+    name-hyphen (at-start .args .name .now) (c .if2 .taken)
 
 loop-holds : tie.Need-loop-holds Inv-loop μ-loop
-loop-holds c = name-begin (c .before .before .before .before .args .name .now) (c .before .before .if1 .left) (c .if2 .left)
+loop-holds c =
+    let at-if1 = c .before .before in
+    let at-start = at-if1 .before .before in
+    name-begin (at-start .args .name .now) (at-if1 .if1 .left) (c .if2 .left)
 
 shared-slice-read-name-byte : tie.Need-shared-slice-read-name-byte Inv-loop μ-loop
 shared-slice-read-name-byte c = omega arith
@@ -35,7 +41,11 @@ name-byte-requires : tie.Need-name-byte-requires Inv-loop μ-loop
 name-byte-requires c κs = search needs
 
 returns-3 : tie.Need-returns-3 Inv-loop μ-loop
-returns-3 c = sym (c .before .before .before .before .loop .inv ∙ name-other _ _ (c .before .before .before .loop-test .taken) _ (c .before .name-byte .ensures) (not-true _ (c .if3 .taken)))
+returns-3 c =
+    let at-name-byte = c .before in
+    let at-loop-test = at-name-byte .before .before in
+    let at-loop = at-loop-test .before in
+    sym (at-loop .loop .inv ∙ name-other _ _ (at-loop-test .loop-test .taken) _ (at-name-byte .name-byte .ensures) (not-true _ (c .if3 .taken)))
 
 add-i : tie.Need-add-i Inv-loop μ-loop
 add-i c = omega arith
@@ -44,7 +54,11 @@ loop-less : tie.Need-loop-less Inv-loop μ-loop
 loop-less c = omega arith
 
 loop-again : tie.Need-loop-again Inv-loop μ-loop
-loop-again c = c .before .before .before .before .loop .inv ∙ name-next _ _ (c .before .before .before .loop-test .taken) _ (c .before .name-byte .ensures) (not-false _ (c .if3 .left))
+loop-again c =
+    let at-name-byte = c .before in
+    let at-loop-test = at-name-byte .before .before in
+    let at-loop = at-loop-test .before in
+    at-loop .loop .inv ∙ name-next _ _ (at-loop-test .loop-test .taken) _ (at-name-byte .name-byte .ensures) (not-false _ (c .if3 .left))
 
 returns-4 : tie.Need-returns-4 Inv-loop μ-loop
 returns-4 c = sym (c .before .loop .inv ∙ name-end _ _ (c .loop-test .left))

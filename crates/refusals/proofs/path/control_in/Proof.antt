@@ -1,10 +1,10 @@
--- `refusals::path::control_in` meets its contract: each flag says whether its test held of one of the j bytes passed.
+-- `refusals::path::control_in` meets its contract: each flag is whether its test held of one of the j bytes passed.
 use Rattle.refusals.proofs.ByteInLaws.{Scanned, scanned-begin, scanned-here, scanned-other, scanned-end, Either, first-in, second-in}
 use mathlib.Core.Path.{_≡_}
 use mathlib.Core.Logic.{inl, inr, ⊎-elim}
 use Prim.Native.Nat.{ℕ, _+_, _-_, _<_, _≤_}
 use native.Mathlib.Omega.{arith}
-use Rattle.refusals.specs.Questions.{ControlByte}
+use Rattle.refusals.specs.Conditions.{ControlByte}
 use Rattle.refusals.proofs.path.control_in.Statement.{statement}
 use Rattle.refusals.proofs.path.control_in.Tie as tie
 
@@ -47,12 +47,14 @@ loop-less c = omega arith
 
 loop-again : tie.Need-loop-again Inv-loop μ-loop
 loop-again c =
-    let at = c .before .before .before .before .before .loop .inv in (
+    let at-if1 = c .before .before in
+    let at-loop = at-if1 .before .before .before in
+    let at = at-loop .loop .inv in (
       omega (arith, at .0),
       ⊎-elim
           (λ w. scanned-here Low _ _ _ _ (omega (arith, w .0 .taken)) (w .1))
           (λ w. scanned-other Low _ _ _ _ _ (λ l. absurd (omega (arith, l, w .0 .left))) (at .1) (w .1))
-          (c .before .before .if1 .came),
+          (at-if1 .if1 .came),
       ⊎-elim
           (λ w. scanned-here Delete _ _ _ _ (omega (arith, w .0 .taken)) (w .1))
           (λ w. scanned-other Delete _ _ _ _ _ (λ e. absurd (omega (arith, e, w .0 .left))) (at .2) (w .1))

@@ -1,6 +1,6 @@
 -- `refusals::path::holds_control` meets its contract: the parts that are looked at cover all bytes.
 use Rattle.refusals.proofs.ByteInLaws.{holds-whole, holds-first, holds-second}
-use Rattle.refusals.specs.Questions.{ControlByte}
+use Rattle.refusals.specs.Conditions.{ControlByte}
 use native.Mathlib.Omega.{arith}
 use borrow.Author.Needs.{needs}
 use Rattle.refusals.proofs.path.holds_control.Statement.{statement}

@@ -1,7 +1,7 @@
 -- `refusals::path::path_bad` meets its contract. The slashes not yet passed decide whether a bad component follows one.
-use Rattle.refusals.specs.Questions.{BadPath}
-use Rattle.refusals.specs.Scans.{badLater}
-use Rattle.refusals.proofs.Says.{says, denies, said-false}
+use Rattle.refusals.specs.Conditions.{BadPath}
+use Rattle.refusals.specs.inner.Scans.{badLater}
+use Rattle.bytestrings.proofs.BoolLaws.{yes-iff, no-iff, not-if-false}
 use Rattle.refusals.proofs.ScanLaws.{later-here, later-fine, later-plain, later-past}
 use Rattle.refusals.proofs.ComponentLaws.{bad-start, bad-later, good-path}
 use mathlib.Core.Path.{_≡_, refl, sym, _∙_}
@@ -21,20 +21,20 @@ abbrev μ-loop : tie.MeasureT-loop
 
 returns : tie.Need-returns Inv-loop μ-loop
 unfolding BadPath
-returns c = says (inr (inl (c .if1 .taken)))
+returns c = yes-iff (inr (inl (c .if1 .taken)))
 
 holds-control-requires : tie.Need-holds-control-requires Inv-loop μ-loop
 holds-control-requires c κs = search needs
 
 returns-2 : tie.Need-returns-2 Inv-loop μ-loop
 unfolding BadPath
-returns-2 c = says (inr (inr (inr (inr (inr (c .before .holds-control .ensures .0 (c .if2 .taken)))))))
+returns-2 c = yes-iff (inr (inr (inr (inr (inr (c .before .holds-control .ensures .0 (c .if2 .taken)))))))
 
 bad-here-requires : tie.Need-bad-here-requires Inv-loop μ-loop
 bad-here-requires c κs = search needs
 
 returns-3 : tie.Need-returns-3 Inv-loop μ-loop
-returns-3 c = says (bad-start _ (sym (c .before .bad-here .ensures) ∙ c .if3 .taken))
+returns-3 c = yes-iff (bad-start _ (sym (c .before .bad-here .ensures) ∙ c .if3 .taken))
 
 loop-holds : tie.Need-loop-holds Inv-loop μ-loop
 loop-holds c = refl
@@ -49,7 +49,12 @@ bad-here-requires-2 : tie.Need-bad-here-requires-2 Inv-loop μ-loop
 bad-here-requires-2 c κs = search needs
 
 returns-4 : tie.Need-returns-4 Inv-loop μ-loop
-returns-4 c = says (bad-later _ (c .before .before .before .before .before .loop .inv ∙ later-here _ _ (c .before .before .before .before .loop-test .taken) (c .before .before .if4 .taken) (sym (c .before .bad-here2 .ensures) ∙ c .if5 .taken)))
+returns-4 c =
+    let at-bad-here2 = c .before in
+    let at-if4 = at-bad-here2 .before in
+    let at-loop-test = at-if4 .before .before in
+    let at-loop = at-loop-test .before in
+    yes-iff (bad-later _ (at-loop .loop .inv ∙ later-here _ _ (at-loop-test .loop-test .taken) (at-if4 .if4 .taken) (sym (at-bad-here2 .bad-here2 .ensures) ∙ c .if5 .taken)))
 
 add-i : tie.Need-add-i Inv-loop μ-loop
 add-i c = omega arith
@@ -58,16 +63,25 @@ loop-less : tie.Need-loop-less Inv-loop μ-loop
 loop-less c = omega arith
 
 loop-again : tie.Need-loop-again Inv-loop μ-loop
-loop-again c = c .before .before .before .loop .inv ∙ ⊎-elim (λ w. later-fine _ _ (c .before .before .loop-test .taken) (w .0 .taken) (sym (w .1 .ensures) ∙ w .2 .left)) (λ w. later-plain _ _ (c .before .before .loop-test .taken) (w .left)) (c .if4 .came)
+loop-again c =
+    let at-loop-test = c .before .before in
+    let at-loop = at-loop-test .before in
+    at-loop .loop .inv
+    ∙ ⊎-elim (λ w. later-fine _ _ (at-loop-test .loop-test .taken) (w .0 .taken) (sym (w .1 .ensures) ∙ w .2 .left)) (λ w. later-plain _ _ (at-loop-test .loop-test .taken) (w .left)) (c .if4 .came)
 
 returns-5 : tie.Need-returns-5 Inv-loop μ-loop
 returns-5 c =
-    let scan = c .before .before .before .before in
-    let short = scan .before .before .if1 .left in
-    let clean = said-false (scan .before .holds-control .ensures) (scan .if2 .left) in
-    let good-start = sym (c .before .before .before .bad-here .ensures) ∙ c .before .before .if3 .left in
-    let good-rest = c .before .loop .inv ∙ later-past _ _ (c .loop-test .left) in
-    denies (good-path _ short clean good-start good-rest)
+    let at-loop = c .before in
+    let at-if3 = at-loop .before in
+    let at-bad-here = at-if3 .before in
+    let at-if2 = at-bad-here .before in
+    let at-holds-control = at-if2 .before in
+    let at-if1 = at-holds-control .before in
+    let short = at-if1 .if1 .left in
+    let clean = not-if-false (at-holds-control .holds-control .ensures) (at-if2 .if2 .left) in
+    let good-start = sym (at-bad-here .bad-here .ensures) ∙ at-if3 .if3 .left in
+    let good-rest = at-loop .loop .inv ∙ later-past _ _ (c .loop-test .left) in
+    no-iff (good-path _ short clean good-start good-rest)
 
 pub path-bad-spec : {M : Type 1} → statement M
 path-bad-spec =

@@ -1,8 +1,8 @@
 -- `refusals::rules::line_long` meets its contract. The files not yet passed decide.
-use Rattle.refusals.specs.Questions.{LongLine}
-use Rattle.refusals.specs.Scans.{LongIn}
+use Rattle.refusals.specs.Conditions.{LongLine}
+use Rattle.refusals.specs.inner.Scans.{LongIn}
 use Rattle.refusals.proofs.LongLaws.{LongFiles, files-begin, files-past, files-bare, file-long, file-fine}
-use Rattle.refusals.proofs.Says.{says, denies, said-false}
+use Rattle.bytestrings.proofs.BoolLaws.{yes-iff, no-iff, not-if-false}
 use Rattle.rulefiles.specs.RuleFiles.{filesFrom}
 use mathlib.Core.Path.{subst, sym}
 use mathlib.Core.List.{List}
@@ -24,7 +24,13 @@ loop-holds : tie.Need-loop-holds Inv-loop μ-loop
 loop-holds c = files-begin _ _ _
 
 returns : tie.Need-returns Inv-loop μ-loop
-returns c = denies (λ b. files-bare (c .before .before .before .before .before .before .args .rules .now) (c .before .before .before .before .before .before .args .ends .now) (c .before .before .before .before .before .before .args .bases .now) (c .before .before .loop .start) (c .before .before .loop .i) (c .before .loop-test .taken) (c .if1 .taken) (c .before .before .loop .inv .0 b))
+returns c =
+    let at-loop-test = c .before in
+    let at-loop = at-loop-test .before in
+    let at-shared-slice-known2 = at-loop .before .before in
+    let at-start = at-shared-slice-known2 .before .before in
+    no-iff (λ b. files-bare (at-start .args .rules .now) (at-start .args .ends .now) (at-start .args .bases .now) (at-loop .loop .start) (at-loop .loop .i) (at-loop-test .loop-test .taken)
+    (c .if1 .taken) (at-loop .loop .inv .0 b))
 
 mul-end : tie.Need-mul-end Inv-loop μ-loop
 mul-end c = search needs
@@ -39,7 +45,16 @@ long-in-requires : tie.Need-long-in-requires Inv-loop μ-loop
 long-in-requires c κs = search needs
 
 returns-2 : tie.Need-returns-2 Inv-loop μ-loop
-returns-2 c = says (c .before .before .before .before .before .before .loop .inv .1 (file-long (c .before .before .before .before .before .before .before .before .before .before .args .rules .now) (c .before .before .before .before .before .before .before .before .before .before .args .ends .now) (c .before .before .before .before .before .before .before .before .before .before .args .bases .now) (c .before .before .before .before .before .before .loop .start) (c .before .before .before .before .before .before .loop .i) (c .before .before .before .before .before .loop-test .taken) (c .before .before .before .before .if1 .left) (subst (λ (d : List ℕ). LongIn d) (c .before .before .file-part .ensures) (c .before .long-in .ensures .0 (c .if2 .taken)))))
+returns-2 c =
+    let at-long-in = c .before in
+    let at-file-part = at-long-in .before in
+    let at-if1 = at-file-part .before .before in
+    let at-loop-test = at-if1 .before in
+    let at-loop = at-loop-test .before in
+    let at-shared-slice-known2 = at-loop .before .before in
+    let at-start = at-shared-slice-known2 .before .before in
+    yes-iff (at-loop .loop .inv .1 (file-long (at-start .args .rules .now) (at-start .args .ends .now) (at-start .args .bases .now) (at-loop .loop .start) (at-loop .loop .i)
+    (at-loop-test .loop-test .taken) (at-if1 .if1 .left) (subst (λ (d : List ℕ). LongIn d) (at-file-part .file-part .ensures) (at-long-in .long-in .ensures .0 (c .if2 .taken)))))
 
 add-i : tie.Need-add-i Inv-loop μ-loop
 add-i c = omega arith
@@ -48,10 +63,25 @@ loop-less : tie.Need-loop-less Inv-loop μ-loop
 loop-less c = omega arith
 
 loop-again : tie.Need-loop-again Inv-loop μ-loop
-loop-again c = Iff·trans (c .before .before .before .before .before .before .loop .inv) (file-fine (c .before .before .before .before .before .before .before .before .before .before .args .rules .now) (c .before .before .before .before .before .before .before .before .before .before .args .ends .now) (c .before .before .before .before .before .before .before .before .before .before .args .bases .now) (c .before .before .before .before .before .before .loop .start) (c .before .before .before .before .before .before .loop .i) (c .before .before .before .before .before .loop-test .taken) (c .before .before .before .before .if1 .left) (λ h. said-false (c .before .long-in .ensures) (c .if2 .left) (subst (λ (d : List ℕ). LongIn d) (sym (c .before .before .file-part .ensures)) h)))
+loop-again c =
+    let at-long-in = c .before in
+    let at-file-part = at-long-in .before in
+    let at-if1 = at-file-part .before .before in
+    let at-loop-test = at-if1 .before in
+    let at-loop = at-loop-test .before in
+    let at-shared-slice-known2 = at-loop .before .before in
+    let at-start = at-shared-slice-known2 .before .before in
+    Iff·trans (at-loop .loop .inv) (file-fine (at-start .args .rules .now) (at-start .args .ends .now) (at-start .args .bases .now) (at-loop .loop .start) (at-loop .loop .i)
+    (at-loop-test .loop-test .taken) (at-if1 .if1 .left)
+    (λ h. not-if-false (at-long-in .long-in .ensures) (c .if2 .left) (subst (λ (d : List ℕ). LongIn d) (sym (at-file-part .file-part .ensures)) h)))
 
 returns-3 : tie.Need-returns-3 Inv-loop μ-loop
-returns-3 c = denies (λ b. files-past (c .before .before .before .before .before .args .rules .now) (c .before .before .before .before .before .args .ends .now) (c .before .before .before .before .before .args .bases .now) (c .before .loop .start) (c .before .loop .i) (c .loop-test .left) (c .before .loop .inv .0 b))
+returns-3 c =
+    let at-loop = c .before in
+    let at-shared-slice-known2 = at-loop .before .before in
+    let at-start = at-shared-slice-known2 .before .before in
+    no-iff (λ b. files-past (at-start .args .rules .now) (at-start .args .ends .now) (at-start .args .bases .now) (at-loop .loop .start) (at-loop .loop .i) (c .loop-test .left)
+    (at-loop .loop .inv .0 b))
 
 pub line-long-spec : {M : Type 1} → statement M
 line-long-spec =

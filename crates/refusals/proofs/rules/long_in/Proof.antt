@@ -1,7 +1,7 @@
 -- `refusals::rules::long_in` meets its contract. The lines from `at` on decide.
-use Rattle.refusals.specs.Scans.{LongIn}
+use Rattle.refusals.specs.inner.Scans.{LongIn}
 use Rattle.refusals.proofs.LongLaws.{long-over, long-here, long-skip}
-use Rattle.refusals.proofs.Says.{says, denies}
+use Rattle.bytestrings.proofs.BoolLaws.{yes-iff, no-iff}
 use mathlib.Core.Logic.{_↔_, Iff·rfl, Iff·trans}
 use Prim.Native.Nat.{_-_, _≤_}
 use native.Mathlib.Omega.{arith}
@@ -31,16 +31,26 @@ after-newline-requires : tie.Need-after-newline-requires Inv-loop μ-loop
 after-newline-requires c κs = (omega arith, omega arith)
 
 returns : tie.Need-returns Inv-loop μ-loop
-returns c = says (c .before .before .before .loop .inv .1 .1 (long-here _ _ _ (c .before .before .loop-test .taken) (c .before .after-newline .ensures) (c .if1 .taken)))
+returns c =
+    let at-after-newline = c .before in
+    let at-loop-test = at-after-newline .before in
+    let at-loop = at-loop-test .before in
+    yes-iff (at-loop .loop .inv .1 .1 (long-here _ _ _ (at-loop-test .loop-test .taken) (at-after-newline .after-newline .ensures) (c .if1 .taken)))
 
 loop-less : tie.Need-loop-less Inv-loop μ-loop
 loop-less c = omega (arith, c .before .after-newline .ensures .from, c .before .after-newline .ensures .to)
 
 loop-again : tie.Need-loop-again Inv-loop μ-loop
-loop-again c = (omega (arith, c .before .after-newline .ensures .to), Iff·trans (c .before .before .before .loop .inv .1) (long-skip _ _ _ (c .before .before .loop-test .taken) (c .before .after-newline .ensures) (c .if1 .left)))
+loop-again c =
+    let at-after-newline = c .before in
+    let at-loop-test = at-after-newline .before in
+    let at-loop = at-loop-test .before in (
+      omega (arith, at-after-newline .after-newline .ensures .to),
+      Iff·trans (at-loop .loop .inv .1) (long-skip _ _ _ (at-loop-test .loop-test .taken) (at-after-newline .after-newline .ensures) (c .if1 .left)),
+    )
 
 returns-2 : tie.Need-returns-2 Inv-loop μ-loop
-returns-2 c = denies (λ b. long-over _ _ (c .before .loop .inv .0) (c .loop-test .left) (c .before .loop .inv .1 .0 b))
+returns-2 c = no-iff (λ b. long-over _ _ (c .before .loop .inv .0) (c .loop-test .left) (c .before .loop .inv .1 .0 b))
 
 pub long-in-spec : {M : Type 1} → statement M
 long-in-spec =

@@ -6,7 +6,8 @@ use Rattle.whichline.proofs.answers.answer_all.Statement.{statement}
 use Rattle.whichline.proofs.answers.answer_all.Tie as tie
 
 abbrev Inv-loop : tie.InvT-loop
-Inv-loop out₀ q name input₀ files file-ends directories directory-ends names rules₀ u₀ at₀ turns₀ out input rules u at turns = (length out ≡ length out₀) × ((length input ≡ length input₀) × (length rules ≡ length rules₀))
+Inv-loop out₀ q name input₀ files file-ends directories directory-ends names rules₀ u₀ at₀ turns₀ out input rules u at turns =
+    (length out ≡ length out₀) × ((length input ≡ length input₀) × (length rules ≡ length rules₀))
 
 abbrev μ-loop : tie.MeasureT-loop
 μ-loop out₀ q name input₀ files file-ends directories directory-ends names rules₀ u₀ at₀ turns₀ out input rules u at turns = turns

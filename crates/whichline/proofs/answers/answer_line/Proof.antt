@@ -63,7 +63,14 @@ slice-aggregate-append-lent-3 : tie.Need-slice-aggregate-append-lent-3
 slice-aggregate-append-lent-3 c = search needs
 
 append-lent-requires : tie.Need-append-lent-requires
-append-lent-requires c κs = done-within _ _ _ _ _ _ _ (c .before .before .before .before .before .before .lending .given .1) (c .before .before .before .before .before .before .before .before .before .before .before .before .before .lend .ensures)
+append-lent-requires c κs =
+    let at-ends3 = c .before .before in
+    let at-append-lent-arg = at-ends3 .before .before in
+    let at-lending = at-append-lent-arg .before .before in
+    let at-numbers5 = at-lending .before .before in
+    let at-ends2 = at-numbers5 .before .before in
+    let at-lend = at-ends2 .before .before .before in
+    done-within _ _ _ _ _ _ _ (at-lending .lending .given .1) (at-lend .lend .ensures)
 
 slice-aggregate-append-2 : tie.Need-slice-aggregate-append-2
 slice-aggregate-append-2 c = search needs
@@ -72,7 +79,24 @@ append-requires-2 : tie.Need-append-requires-2
 append-requires-2 c κs = search needs
 
 same-length-3 : tie.Need-same-length-3
-same-length-3 c = omega (arith, c .before .before .append2 .kept .0, c .before .before .before .before .before .before .before .append-lent .kept .0, c .before .before .before .before .before .before .before .before .before .before .before .before .before .before .before .before .before .before .before .before .before .before .before .before .before .before .before .before .before .before .before .append .kept .0, c .before .before .before .before .before .before .before .before .before .before .before .before .before .before .before .before .before .before .before .before .before .before .before .before .before .before .before .before .before .before .before .before .before .before .before .before .append-path .kept .0)
+same-length-3 c =
+    let at-append2 = c .before .before in
+    let at-slice-known6 = at-append2 .before .before .before in
+    let at-append-lent = at-slice-known6 .before .before in
+    let at-ends3 = at-append-lent .before .before .before in
+    let at-append-lent-arg = at-ends3 .before .before in
+    let at-lending = at-append-lent-arg .before .before in
+    let at-numbers5 = at-lending .before .before in
+    let at-ends2 = at-numbers5 .before .before in
+    let at-rules = at-ends2 .before .before in
+    let at-numbers4 = at-rules .before .before in
+    let at-ends = at-numbers4 .before .before in
+    let at-numbers3 = at-ends .before .before in
+    let at-numbers = at-numbers3 .before .before in
+    let at-append = at-numbers .before .before .before in
+    let at-slice-known3 = at-append .before .before .before in
+    let at-append-path = at-slice-known3 .before .before in
+    omega (arith, at-append2 .append2 .kept .0, at-append-lent .append-lent .kept .0, at-append .append .kept .0, at-append-path .append-path .kept .0)
 
 same-length-4 : tie.Need-same-length-4
 same-length-4 c = search needs

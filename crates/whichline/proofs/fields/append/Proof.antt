@@ -16,7 +16,9 @@ sub-if2 c = search needs
 
 returns-2 : tie.Need-returns-2
 returns-2 c =
-    let a = c .before .before .before .before .args in
+    let at-shared-slice-known = c .before .before in
+    let at-start = at-shared-slice-known .before .before in
+    let a = at-start .args in
     (after-full (length (a .out .now)) (a .at) (length (a .s .now)) (omega arith), omega arith)
 
 sub-copy : tie.Need-sub-copy
@@ -39,7 +41,10 @@ same-length c = search needs
 
 returns-3 : tie.Need-returns-3
 returns-3 c =
-    let a = c .before .before .before .before .before .before .before .before .args in
+    let at-copy = c .before .before in
+    let at-if1 = at-copy .before .before .before in
+    let at-start = at-if1 .before .before .before in
+    let a = at-start .args in
     (after-fits (length (a .out .now)) (a .at) (length (a .s .now)) (omega arith), omega arith)
 
 pub append-spec : {M : Type 1} → statement M

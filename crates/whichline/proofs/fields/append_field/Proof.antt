@@ -26,8 +26,11 @@ same-length c = search needs
 
 returns : tie.Need-returns Inv-loop μ-loop
 returns c =
-    let put = c .before .before .append .ensures in
-    (field-plain _ _ _ _ (sym (c .before .before .before .before .before .is-plain .ensures) ∙ c .before .before .before .before .if1 .taken) (put .0), put .1)
+    let at-append = c .before .before in
+    let at-if1 = at-append .before .before in
+    let at-is-plain = at-if1 .before in
+    let put = at-append .append .ensures in
+    (field-plain _ _ _ _ (sym (at-is-plain .is-plain .ensures) ∙ at-if1 .if1 .taken) (put .0), put .1)
 
 append-byte-requires : tie.Need-append-byte-requires Inv-loop μ-loop
 append-byte-requires c κs = search needs
@@ -49,7 +52,10 @@ loop-less c = search needs
 
 loop-again : tie.Need-loop-again Inv-loop μ-loop
 loop-again c =
-    let law = bytes-turn _ _ _ _ _ _ _ (c .before .before .before .before .before .loop-test .taken) (c .before .before .append-quoted .ensures .0) (c .before .before .before .before .before .before .loop .inv .2) in
+    let at-append-quoted = c .before .before in
+    let at-loop-test = at-append-quoted .before .before .before in
+    let at-loop = at-loop-test .before in
+    let law = bytes-turn _ _ _ _ _ _ _ (at-loop-test .loop-test .taken) (at-append-quoted .append-quoted .ensures .0) (at-loop .loop .inv .2) in
     (omega arith, omega arith, law (omega arith), omega arith)
 
 append-byte-requires-2 : tie.Need-append-byte-requires-2 Inv-loop μ-loop
@@ -60,9 +66,14 @@ same-length-2 c = search needs
 
 returns-2 : tie.Need-returns-2 Inv-loop μ-loop
 returns-2 c =
-    let l = c .before .before .before .before .before in
-    let end = bytes-end _ _ _ _ _ (c .before .before .before .before .loop-test .left) (l .loop .inv .2) in
-    let law = field-quoted _ _ _ _ _ _ _ _ (sym (l .before .before .before .before .before .before .is-plain .ensures) ∙ l .before .before .before .before .before .if1 .left) (l .before .before .before .append-byte .ensures .0) end (c .before .before .append-byte2 .ensures .0) in
+    let at-append-byte2 = c .before .before in
+    let at-loop-test = at-append-byte2 .before .before in
+    let at-loop = at-loop-test .before in
+    let at-append-byte = at-loop .before .before .before in
+    let at-if1 = at-append-byte .before .before in
+    let at-is-plain = at-if1 .before in
+    let end = bytes-end _ _ _ _ _ (at-loop-test .loop-test .left) (at-loop .loop .inv .2) in
+    let law = field-quoted _ _ _ _ _ _ _ _ (sym (at-is-plain .is-plain .ensures) ∙ at-if1 .if1 .left) (at-append-byte .append-byte .ensures .0) end (at-append-byte2 .append-byte2 .ensures .0) in
     (law (omega arith) (omega arith), omega arith)
 
 pub append-field-spec : {M : Type 1} → statement M

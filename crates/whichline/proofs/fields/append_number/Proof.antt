@@ -1,5 +1,4 @@
 -- As many bytes as the number has digits.
-use native.Mathlib.Omega.{arith}
 use borrow.Author.Needs.{needs}
 use Rattle.whichline.proofs.fields.append_number.Statement.{statement}
 use Rattle.whichline.proofs.fields.append_number.Tie as tie
@@ -21,8 +20,10 @@ same-length c = search needs
 
 returns : tie.Need-returns
 returns c =
-    let counted = c .before .before .before .before .before .decimal in
-    let put = c .before .before .append .ensures in
+    let at-append = c .before .before in
+    let at-decimal = at-append .before .before .before in
+    let counted = at-decimal .decimal in
+    let put = at-append .append .ensures in
     ((counted .result, counted .ensures .1 .0, rw (← counted .ensures .0 .1) at (put .0)), put .1)
 
 pub append-number-spec : {M : Type 1} → statement M

@@ -21,7 +21,12 @@ same-length c = search needs
 
 returns : tie.Need-returns
 returns c =
-    let law = quoted-letter _ _ _ _ _ _ _ (c .before .before .before .before .before .before .before .before .before .letter .ensures) (c .before .before .before .before .before .before .before .before .if1 .taken) (c .before .before .before .before .before .before .append-byte .ensures .0) (c .before .before .append-byte2 .ensures .0) in
+    let at-append-byte2 = c .before .before in
+    let at-slice-known2 = at-append-byte2 .before .before in
+    let at-append-byte = at-slice-known2 .before .before in
+    let at-if1 = at-append-byte .before .before in
+    let at-letter = at-if1 .before in
+    let law = quoted-letter _ _ _ _ _ _ _ (at-letter .letter .ensures) (at-if1 .if1 .taken) (at-append-byte .append-byte .ensures .0) (at-append-byte2 .append-byte2 .ensures .0) in
     (law (omega arith), omega arith)
 
 is-control-requires : tie.Need-is-control-requires
@@ -35,8 +40,13 @@ same-length-2 c = search needs
 
 returns-2 : tie.Need-returns-2
 returns-2 c =
-    let control = sym (c .before .before .before .before .before .is-control .ensures) ∙ not-true _ (c .before .before .before .before .if2 .taken) in
-    (quoted-itself _ _ _ _ _ (c .before .before .before .before .before .before .before .letter .ensures) (c .before .before .before .before .before .before .if1 .left) control (c .before .before .append-byte3 .ensures .0), omega arith)
+    let at-append-byte3 = c .before .before in
+    let at-if2 = at-append-byte3 .before .before in
+    let at-is-control = at-if2 .before in
+    let at-if1 = at-is-control .before in
+    let at-letter = at-if1 .before in
+    let control = sym (at-is-control .is-control .ensures) ∙ not-true _ (at-if2 .if2 .taken) in
+    (quoted-itself _ _ _ _ _ (at-letter .letter .ensures) (at-if1 .if1 .left) control (at-append-byte3 .append-byte3 .ensures .0), omega arith)
 
 add-t18 : tie.Need-add-t18
 add-t18 c = search needs
@@ -58,8 +68,13 @@ same-length-3 c = search needs
 
 returns-3 : tie.Need-returns-3
 returns-3 c =
-    let control = sym (c .before .before .before .before .before .before .is-control .ensures) ∙ not-false _ (c .before .before .before .before .before .if2 .left) in
-    (quoted-digits _ _ _ _ _ (c .before .before .before .before .before .before .before .before .letter .ensures) (c .before .before .before .before .before .before .before .if1 .left) control (c .before .before .append .ensures .0), omega arith)
+    let at-append = c .before .before in
+    let at-if2 = at-append .before .before .before in
+    let at-is-control = at-if2 .before in
+    let at-if1 = at-is-control .before in
+    let at-letter = at-if1 .before in
+    let control = sym (at-is-control .is-control .ensures) ∙ not-false _ (at-if2 .if2 .left) in
+    (quoted-digits _ _ _ _ _ (at-letter .letter .ensures) (at-if1 .if1 .left) control (at-append .append .ensures .0), omega arith)
 
 pub append-quoted-spec : {M : Type 1} → statement M
 append-quoted-spec =

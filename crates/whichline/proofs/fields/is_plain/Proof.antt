@@ -35,8 +35,12 @@ is-control-requires c κs = search needs
 
 returns-3 : tie.Need-returns-3 Inv-loop μ-loop
 returns-3 c =
-    let l = c .before .before .before .before in
-    plain-text _ _ (l .before .before .before .if1 .left) (l .before .if2 .left) (l .loop .inv .1 ∙ text-stops _ _ (c .before .before .before .loop-test .taken) (sym (c .before .is-control .ensures) ∙ c .if3 .taken))
+    let at-is-control = c .before in
+    let at-loop-test = at-is-control .before .before in
+    let at-loop = at-loop-test .before in
+    let at-if2 = at-loop .before in
+    let at-if1 = at-if2 .before .before in
+    plain-text _ _ (at-if1 .if1 .left) (at-if2 .if2 .left) (at-loop .loop .inv .1 ∙ text-stops _ _ (at-loop-test .loop-test .taken) (sym (at-is-control .is-control .ensures) ∙ c .if3 .taken))
 
 add-i : tie.Need-add-i Inv-loop μ-loop
 add-i c = search needs
@@ -46,12 +50,17 @@ loop-less c = search needs
 
 loop-again : tie.Need-loop-again Inv-loop μ-loop
 loop-again c =
-    (omega arith, c .before .before .before .before .loop .inv .1 ∙ text-next _ _ (c .before .before .before .loop-test .taken) (sym (c .before .is-control .ensures) ∙ c .if3 .left))
+    let at-is-control = c .before in
+    let at-loop-test = at-is-control .before .before in
+    let at-loop = at-loop-test .before in
+    (omega arith, at-loop .loop .inv .1 ∙ text-next _ _ (at-loop-test .loop-test .taken) (sym (at-is-control .is-control .ensures) ∙ c .if3 .left))
 
 returns-4 : tie.Need-returns-4 Inv-loop μ-loop
 returns-4 c =
-    let l = c .before in
-    plain-text _ _ (l .before .before .before .if1 .left) (l .before .if2 .left) (l .loop .inv .1 ∙ text-ends _ _ (c .loop-test .left))
+    let at-loop = c .before in
+    let at-if2 = at-loop .before in
+    let at-if1 = at-if2 .before .before in
+    plain-text _ _ (at-if1 .if1 .left) (at-if2 .if2 .left) (at-loop .loop .inv .1 ∙ text-ends _ _ (c .loop-test .left))
 
 pub is-plain-spec : {M : Type 1} → statement M
 is-plain-spec =

@@ -7,7 +7,9 @@ use Rattle.whichline.proofs.given.take_all.Statement.{statement}
 use Rattle.whichline.proofs.given.take_all.Tie as tie
 
 abbrev Inv-loop : tie.InvT-loop
-Inv-loop first files₀ file-ends₀ directories₀ directory-ends₀ names₀ n g₀ turns₀ files file-ends directories directory-ends names g turns = Held g files₀ file-ends₀ directories₀ directory-ends₀ names₀ × (length files ≡ length files₀) × ((length file-ends ≡ length file-ends₀) × ((length directories ≡ length directories₀) × ((length directory-ends ≡ length directory-ends₀) × (length names ≡ length names₀))))
+Inv-loop first files₀ file-ends₀ directories₀ directory-ends₀ names₀ n g₀ turns₀ files file-ends directories directory-ends names g turns =
+    Held g files₀ file-ends₀ directories₀ directory-ends₀ names₀ × (length files ≡ length files₀)
+    × ((length file-ends ≡ length file-ends₀) × ((length directories ≡ length directories₀) × ((length directory-ends ≡ length directory-ends₀) × (length names ≡ length names₀))))
 
 abbrev μ-loop : tie.MeasureT-loop
 μ-loop first files₀ file-ends₀ directories₀ directory-ends₀ names₀ n g₀ turns₀ files file-ends directories directory-ends names g turns = turns

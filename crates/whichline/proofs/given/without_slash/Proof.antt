@@ -23,7 +23,11 @@ slice-aggregate-result : tie.Need-slice-aggregate-result
 slice-aggregate-result c = sym (length-take-le _ _ (omega arith))
 
 returns-2 : tie.Need-returns-2
-returns-2 c = slash-goes (c .before .before .before .before .args .directory .now) (c .before .before .before .if1 .left) (c .before .if2 .taken)
+returns-2 c =
+    let at-if2 = c .before in
+    let at-if1 = at-if2 .before .before in
+    let at-start = at-if1 .before in
+    slash-goes (at-start .args .directory .now) (at-if1 .if1 .left) (at-if2 .if2 .taken)
 
 returns-3 : tie.Need-returns-3
 returns-3 c = other-stays _ (c .before .before .if1 .left) (c .if2 .left)

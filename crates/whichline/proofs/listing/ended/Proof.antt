@@ -1,7 +1,5 @@
 -- The rest of a line that was too long, or a line.
-use mathlib.Core.Path.{sym}
 use native.Mathlib.Omega.{arith}
-use borrow.Author.Tests.{lt-leb, le-leb}
 use Rattle.whichline.specs.Listing.{ended}
 use borrow.Author.Needs.{needs}
 use Rattle.whichline.proofs.listing.ended.Statement.{statement}

@@ -14,7 +14,9 @@ ended-requires c κs = search needs
 returns : tie.Need-returns
 unfolding looked
 returns c =
-    rw (← c .before .before .before .line-end .ensures, lt-ltb _ _ (c .before .if1 .taken)) (c .ended .ensures (c .before .if1 .taken))
+    let at-if1 = c .before in
+    let at-line-end = at-if1 .before .before in
+    rw (← at-line-end .line-end .ensures, lt-ltb _ _ (at-if1 .if1 .taken)) (c .ended .ensures (at-if1 .if1 .taken))
 
 unended-requires : tie.Need-unended-requires
 unended-requires c κs = search needs
@@ -22,7 +24,9 @@ unended-requires c κs = search needs
 returns-2 : tie.Need-returns-2
 unfolding looked
 returns-2 c =
-    rw (← c .before .before .before .line-end .ensures, le-ltb _ _ (c .before .if1 .left)) (c .unended .ensures)
+    let at-if1 = c .before in
+    let at-line-end = at-if1 .before .before in
+    rw (← at-line-end .line-end .ensures, le-ltb _ _ (at-if1 .if1 .left)) (c .unended .ensures)
 
 pub look-spec : {M : Type 1} → statement M
 look-spec =

@@ -30,7 +30,10 @@ found-line-requires c κs = search needs
 returns-5 : tie.Need-returns-5
 unfolding unended
 returns-5 c =
-    rw (lt-leb _ _ (c .before .before .before .before .if1 .left), c .before .before .before .if3 .left, lt-ltb _ _ (c .before .if5 .taken)) (c .found-line .ensures)
+    let at-if5 = c .before in
+    let at-if3 = at-if5 .before .before in
+    let at-if1 = at-if3 .before in
+    rw (lt-leb _ _ (at-if1 .if1 .left), at-if3 .if3 .left, lt-ltb _ _ (at-if5 .if5 .taken)) (c .found-line .ensures)
 
 found-line-requires-2 : tie.Need-found-line-requires-2
 found-line-requires-2 c κs = search needs
@@ -38,12 +41,19 @@ found-line-requires-2 c κs = search needs
 returns-6 : tie.Need-returns-6
 unfolding unended
 returns-6 c =
-    rw (lt-leb _ _ (c .before .before .before .before .before .if1 .left), c .before .before .before .before .if3 .left, le-ltb _ _ (c .before .before .if5 .left), c .before .if6 .taken) (rw (c .before .if6 .taken) at (c .found-line2 .ensures))
+    let at-if6 = c .before in
+    let at-if5 = at-if6 .before in
+    let at-if3 = at-if5 .before .before in
+    let at-if1 = at-if3 .before in
+    rw (lt-leb _ _ (at-if1 .if1 .left), at-if3 .if3 .left, le-ltb _ _ (at-if5 .if5 .left), at-if6 .if6 .taken) (rw (at-if6 .if6 .taken) at (c .found-line2 .ensures))
 
 returns-7 : tie.Need-returns-7
 unfolding unended
 returns-7 c =
-    rw (lt-leb _ _ (c .before .before .before .before .if1 .left), c .before .before .before .if3 .left, le-ltb _ _ (c .before .if5 .left), c .if6 .left)
+    let at-if5 = c .before in
+    let at-if3 = at-if5 .before .before in
+    let at-if1 = at-if3 .before in
+    rw (lt-leb _ _ (at-if1 .if1 .left), at-if3 .if3 .left, le-ltb _ _ (at-if5 .if5 .left), c .if6 .left)
 
 pub unended-spec : {M : Type 1} → statement M
 unended-spec =

@@ -40,25 +40,39 @@ same-length : tie.Need-same-length
 same-length c = search needs
 
 returns : tie.Need-returns
-returns c = rw (c .before .before .before .before .before .enum-told .given .1) (c .before .before .append .ensures .0)
+returns c =
+    let at-append = c .before .before in
+    let at-enum-told = at-append .before .before .before in
+    rw (at-enum-told .enum-told .given .1) (at-append .append .ensures .0)
 
 same-length-2 : tie.Need-same-length-2
 same-length-2 c = search needs
 
 returns-2 : tie.Need-returns-2
-returns-2 c = rw (c .before .before .before .before .before .before .answer .given .1) (c .before .before .append-decided .ensures)
+returns-2 c =
+    let at-append-decided = c .before .before in
+    let at-append-decided-arg = at-append-decided .before .before in
+    let at-answer = at-append-decided-arg .before .before in
+    rw (at-answer .answer .given .1) (at-append-decided .append-decided .ensures)
 
 same-length-3 : tie.Need-same-length-3
 same-length-3 c = search needs
 
 returns-3 : tie.Need-returns-3
-returns-3 c = rw (c .before .before .before .before .before .before .answer2 .given .1) (c .before .before .append-decided2 .ensures)
+returns-3 c =
+    let at-append-decided2 = c .before .before in
+    let at-append-decided-arg3 = at-append-decided2 .before .before in
+    let at-answer2 = at-append-decided-arg3 .before .before in
+    rw (at-answer2 .answer2 .given .1) (at-append-decided2 .append-decided2 .ensures)
 
 same-length-4 : tie.Need-same-length-4
 same-length-4 c = search needs
 
 returns-4 : tie.Need-returns-4
-returns-4 c = rw (c .before .before .before .before .before .answer3 .given .1) (c .before .before .append-refusal .ensures)
+returns-4 c =
+    let at-append-refusal = c .before .before in
+    let at-answer3 = at-append-refusal .before .before .before in
+    rw (at-answer3 .answer3 .given .1) (at-append-refusal .append-refusal .ensures)
 
 pub append-ignore-spec : {M : Type 1} → statement M
 append-ignore-spec =

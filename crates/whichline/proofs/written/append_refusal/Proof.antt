@@ -28,7 +28,17 @@ same-length c = search needs
 
 returns : tie.Need-returns
 returns c =
-    let law = refusal-put (c .before .before .before .before .before .before .before .before .before .before .before .before .before .before .before .before .before .before .before .args .out .now) _ _ _ _ _ _ _ _ _ (c .before .before .before .before .before .before .before .before .before .before .before .before .before .before .before .append .ensures .0) (c .before .before .before .before .before .before .before .before .before .before .before .append-number .ensures .0) (c .before .before .before .before .before .before .append2 .ensures .0) (c .before .before .reason .ensures .0) in
+    let at-reason = c .before .before in
+    let at-slice-known4 = at-reason .before .before in
+    let at-append2 = at-slice-known4 .before .before in
+    let at-slice-known3 = at-append2 .before .before .before in
+    let at-append-number = at-slice-known3 .before .before in
+    let at-slice-known2 = at-append-number .before .before in
+    let at-append = at-slice-known2 .before .before in
+    let at-append-arg = at-append .before .before in
+    let at-start = at-append-arg .before .before in
+    let law = refusal-put (at-start .args .out .now) _ _ _ _ _ _ _ _ _ (at-append .append .ensures .0) (at-append-number .append-number .ensures .0) (at-append2 .append2 .ensures .0)
+    (at-reason .reason .ensures .0) in
     law (omega arith) (omega arith) (omega arith)
 
 pub append-refusal-spec : {M : Type 1} → statement M

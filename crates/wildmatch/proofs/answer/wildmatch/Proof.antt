@@ -1,6 +1,6 @@
 -- `wildmatch::answer::wildmatch` meets its contract: the tests come in the table's order, and each return names its refusal or the answer.
 use Rattle.refusals.specs.Refusals.{TooLong, HoldsZero, Accepted, MatcherRefuses}
-use Rattle.refusals.proofs.Says.{said-false}
+use Rattle.bytestrings.proofs.BoolLaws.{not-if-false}
 use Rattle.refusals.proofs.LowestLaws.{refuses-7, refuses-8, refuses-9, refuses-none}
 use Rattle.wildmatch.proofs.AnswerLaws.{answers, gives-refused, gives-matched, gives-broken, gives-unmatched}
 use mathlib.Core.Logic.{inl, inr}
@@ -10,22 +10,41 @@ use Rattle.wildmatch.proofs.answer.wildmatch.Tie as tie
 
 -- What the tests for refusals leave, one after the other.
 
-short : (d : tie.Else1) → TooLong (d .before .before .before .before .args .pattern .now) (d .before .before .before .before .args .text .now) → ⊥
-short d = said-false (d .before .too-long .ensures) (d .if1 .left)
+short : (d : tie.Else1)
+    → let at-shared-slice-known2 = d .before .before in
+    let at-start = at-shared-slice-known2 .before .before in
+    TooLong (at-start .args .pattern .now) (at-start .args .text .now) → ⊥
+short d = not-if-false (d .before .too-long .ensures) (d .if1 .left)
 
-no-zero : (d : tie.Else2) → HoldsZero (d .before .before .before .before .before .before .args .pattern .now) → ⊥
-no-zero d = said-false (d .before .holds-zero .ensures) (d .if2 .left)
+no-zero : (d : tie.Else2)
+    → let at-too-long = d .before .before .before in
+    let at-start = at-too-long .before .before .before in
+    HoldsZero (at-start .args .pattern .now) → ⊥
+no-zero d = not-if-false (d .before .holds-zero .ensures) (d .if2 .left)
 
-no-zero-in-text : (d : tie.Else3) → HoldsZero (d .before .before .before .before .before .before .before .before .args .text .now) → ⊥
-no-zero-in-text d = said-false (d .before .holds-zero2 .ensures) (d .if3 .left)
+no-zero-in-text : (d : tie.Else3)
+    → let at-holds-zero = d .before .before .before in
+    let at-too-long = at-holds-zero .before .before in
+    let at-start = at-too-long .before .before .before in
+    HoldsZero (at-start .args .text .now) → ⊥
+no-zero-in-text d = not-if-false (d .before .holds-zero2 .ensures) (d .if3 .left)
 
 abbrev S : tie.Else4 → tie.Start
-S d = d .before .before .before .before .before .before .before .before .before .before
+S d =
+    let at-holds-zero2 = d .before .before .before in
+    let at-holds-zero = at-holds-zero2 .before .before in
+    let at-too-long = at-holds-zero .before .before in
+    let at-start = at-too-long .before .before .before in
+    at-start
 
 accepted : (d : tie.Else4) → Accepted (MatcherRefuses (S d .args .pattern .now) (S d .args .text .now) (S d .args .flags))
 accepted d =
-    refuses-none _ _ _ (short (d .before .before .before .before .before .before)) (no-zero (d .before .before .before .before)) (no-zero-in-text (d .before .before))
-    (said-false (d .before .flags-high .ensures) (d .if4 .left))
+    let at-flags-high = d .before in
+    let at-if3 = at-flags-high .before in
+    let at-if2 = at-if3 .before .before in
+    let at-if1 = at-if2 .before .before in
+    refuses-none _ _ _ (short at-if1) (no-zero at-if2) (no-zero-in-text at-if3)
+    (not-if-false (at-flags-high .flags-high .ensures) (d .if4 .left))
 
 too-long-requires : tie.Need-too-long-requires
 too-long-requires c κs = search needs
@@ -43,17 +62,24 @@ holds-zero-requires-2 : tie.Need-holds-zero-requires-2
 holds-zero-requires-2 c κs = search needs
 
 returns-3 : tie.Need-returns-3
-returns-3 c = answers _ _ _ _ (gives-refused _ _ _ _ (refuses-8 _ _ _ (short (c .before .before .before .before)) (inr (c .before .holds-zero2 .ensures .0 (c .if3 .taken)))))
+returns-3 c =
+    let at-holds-zero2 = c .before in
+    let at-if1 = at-holds-zero2 .before .before .before in
+    answers _ _ _ _ (gives-refused _ _ _ _ (refuses-8 _ _ _ (short at-if1) (inr (at-holds-zero2 .holds-zero2 .ensures .0 (c .if3 .taken)))))
 
 flags-high-requires : tie.Need-flags-high-requires
 flags-high-requires c κs = search needs
 
 returns-4 : tie.Need-returns-4
 returns-4 c =
+    let at-flags-high = c .before in
+    let at-if3 = at-flags-high .before in
+    let at-if2 = at-if3 .before .before in
+    let at-if1 = at-if2 .before .before in
     answers _ _ _ _
     (gives-refused _ _ _ _
-    (refuses-9 _ _ _ (short (c .before .before .before .before .before .before)) (no-zero (c .before .before .before .before)) (no-zero-in-text (c .before .before))
-    (c .before .flags-high .ensures .0 (c .if4 .taken))))
+    (refuses-9 _ _ _ (short at-if1) (no-zero at-if2) (no-zero-in-text at-if3)
+    (at-flags-high .flags-high .ensures .0 (c .if4 .taken))))
 
 mode-of-requires : tie.Need-mode-of-requires
 mode-of-requires c κs = search needs
@@ -62,7 +88,11 @@ matches-requires : tie.Need-matches-requires
 matches-requires c κs = search needs
 
 returns-5 : tie.Need-returns-5
-returns-5 c = answers _ _ _ _ (gives-matched _ _ _ (accepted (c .before .before .before)) _ _ (c .before .before .mode-of .ensures) (c .before .matches .ensures) (c .if5 .taken))
+returns-5 c =
+    let at-matches = c .before in
+    let at-mode-of = at-matches .before in
+    let at-if4 = at-mode-of .before in
+    answers _ _ _ _ (gives-matched _ _ _ (accepted at-if4) _ _ (at-mode-of .mode-of .ensures) (at-matches .matches .ensures) (c .if5 .taken))
 
 broken-at-requires : tie.Need-broken-at-requires
 broken-at-requires c κs = search needs
@@ -75,14 +105,23 @@ enum-known-place c = search needs
 
 returns-6 : tie.Need-returns-6
 returns-6 c =
+    let at-broken-at = c .before .before in
+    let at-if5 = at-broken-at .before in
+    let at-matches = at-if5 .before in
+    let at-mode-of = at-matches .before in
+    let at-if4 = at-mode-of .before in
     answers _ _ _ _
-    (gives-unmatched _ _ _ (accepted (c .before .before .before .before .before .before)) _ _ _ (c .before .before .before .before .before .mode-of .ensures)
-    (c .before .before .before .before .matches .ensures) (c .before .before .before .if5 .left) (c .before .before .broken-at .ensures) (c .enum-told .given .1))
+    (gives-unmatched _ _ _ (accepted at-if4) _ _ _ (at-mode-of .mode-of .ensures)
+    (at-matches .matches .ensures) (at-if5 .if5 .left) (at-broken-at .broken-at .ensures) (c .enum-told .given .1))
 
 returns-7 : tie.Need-returns-7
 returns-7 c =
+    let at-place = c .before in
+    let at-broken-at = at-place .before .before in
+    let at-matches = at-broken-at .before .before in
+    let at-if4 = at-matches .before .before in
     answers _ _ _ _
-    (gives-broken _ _ _ (accepted (c .before .before .before .before .before .before .before)) _ _ (c .before .before .before .broken-at .ensures) (c .before .place .given .1))
+    (gives-broken _ _ _ (accepted at-if4) _ _ (at-broken-at .broken-at .ensures) (at-place .place .given .1))
 
 pub wildmatch-spec : {M : Type 1} → statement M
 wildmatch-spec =

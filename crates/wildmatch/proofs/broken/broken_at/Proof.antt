@@ -23,10 +23,17 @@ abbrev I : tie.In-loop Inv-loop μ-loop → ℕ
 I d = d .before .loop .i
 
 -- an escape or a class that can be read is passed
-passed : (d : tie.After-item-size Inv-loop μ-loop) → (d .item-size .result ≡ 0 → ⊥)
-    → (I (d .before .before .before .before .before) + d .item-size .result ≤ length (P (d .before .before .before .before .before)))
-    × Left (P (d .before .before .before .before .before)) (I (d .before .before .before .before .before) + d .item-size .result)
-passed d = left-item _ _ (d .before .before .before .before .before .loop-test .taken) (d .before .before .before .before .before .before .loop .inv .1) _ (d .item-size .ensures)
+passed : (d : tie.After-item-size Inv-loop μ-loop)
+    → let at-may-break = d .before .before .before in
+    let at-loop-test = at-may-break .before .before in
+    (d .item-size .result ≡ 0 → ⊥)
+    → (I at-loop-test + d .item-size .result ≤ length (P at-loop-test))
+    × Left (P at-loop-test) (I at-loop-test + d .item-size .result)
+passed d =
+    let at-may-break = d .before .before .before in
+    let at-loop-test = at-may-break .before .before in
+    let at-loop = at-loop-test .before in
+    left-item _ _ (at-loop-test .loop-test .taken) (at-loop .loop .inv .1) _ (d .item-size .ensures)
 
 loop-holds : tie.Need-loop-holds Inv-loop μ-loop
 loop-holds c = (search needs, left-all _)
@@ -48,10 +55,18 @@ part-item-size-end c = search needs
 
 item-size-requires : tie.Need-item-size-requires Inv-loop μ-loop
 item-size-requires c κs =
-    may-break-from (P (c .before .before .before .before)) _ (c .before .before .before .before .loop-test .taken) _ (c .before .before .may-break .ensures) (c .before .if1 .taken)
+    let at-if1 = c .before in
+    let at-may-break = at-if1 .before in
+    let at-loop-test = at-may-break .before .before in
+    may-break-from (P at-loop-test) _ (at-loop-test .loop-test .taken) _ (at-may-break .may-break .ensures) (at-if1 .if1 .taken)
 
 returns : tie.Need-returns Inv-loop μ-loop
-returns c = left-broken (P (c .before .before .before .before .before .before)) _ (c .before .before .before .before .before .before .loop-test .taken) (c .before .before .before .before .before .before .before .loop .inv .1) _ (c .before .item-size .ensures) (c .if2 .taken)
+returns c =
+    let at-item-size = c .before in
+    let at-may-break = at-item-size .before .before .before in
+    let at-loop-test = at-may-break .before .before in
+    let at-loop = at-loop-test .before in
+    left-broken (P at-loop-test) _ (at-loop-test .loop-test .taken) (at-loop .loop .inv .1) _ (at-item-size .item-size .ensures) (c .if2 .taken)
 
 add-i : tie.Need-add-i Inv-loop μ-loop
 add-i c = omega (arith, passed (c .before) (c .if2 .left) .0)
@@ -70,7 +85,10 @@ loop-less-2 c = search needs
 
 loop-again-2 : tie.Need-loop-again-2 Inv-loop μ-loop
 loop-again-2 c =
-    (omega arith, left-byte _ _ (c .before .before .before .loop-test .taken) (c .before .before .before .before .loop .inv .1) _ (c .before .may-break .ensures) (c .if1 .left))
+    let at-may-break = c .before in
+    let at-loop-test = at-may-break .before .before in
+    let at-loop = at-loop-test .before in
+    (omega arith, left-byte _ _ (at-loop-test .loop-test .taken) (at-loop .loop .inv .1) _ (at-may-break .may-break .ensures) (c .if1 .left))
 
 returns-2 : tie.Need-returns-2 Inv-loop μ-loop
 returns-2 c = left-none _ _ (c .loop-test .left) (c .before .loop .inv .1)

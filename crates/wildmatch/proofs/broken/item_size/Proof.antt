@@ -4,22 +4,29 @@ use mathlib.Core.Path.{_≡_}
 use native.Mathlib.Omega.{arith}
 use lib.ListN.{getD}
 use borrow.Author.Needs.{needs}
+use Rattle.bytestrings.specs.Text.{char}
 use Rattle.wildmatch.proofs.broken.item_size.Statement.{statement}
 use Rattle.wildmatch.proofs.broken.item_size.Tie as tie
 
 -- after the class's size was asked: the start, which has what was required
 abbrev S : tie.After-class-size → tie.Start
-S d = d .before .before .before .before .before
+S d =
+    let at-if1 = d .before .before in
+    let at-start = at-if1 .before .before .before in
+    at-start
 
 -- no `\` stands first
-no-escape : (d : tie.After-class-size) → getD (S d .args .p .now) 0 0 ≡ 92 → ⊥
+no-escape : (d : tie.After-class-size) → getD (S d .args .p .now) 0 0 ≡ char "\\" → ⊥
 no-escape d = d .before .before .if1 .left
 
 shared-slice-read-if1 : tie.Need-shared-slice-read-if1
 shared-slice-read-if1 c = search needs
 
 returns : tie.Need-returns
-returns c = escape-open _ (c .before .before .before .before .pre .0) (c .before .if1 .taken) (c .if2 .taken)
+returns c =
+    let at-if1 = c .before in
+    let at-start = at-if1 .before .before .before in
+    escape-open _ (at-start .pre .0) (at-if1 .if1 .taken) (c .if2 .taken)
 
 returns-2 : tie.Need-returns-2
 returns-2 c = escape-size _ (c .before .if1 .taken) (c .if2 .left)

@@ -1,5 +1,5 @@
 -- `wildmatch::broken::may_break` meets its contract: one test for each of the two bytes.
-use Rattle.wildmatch.specs.Outcomes.{mayBreak}
+use Rattle.wildmatch.specs.inner.Outcomes.{mayBreak}
 use borrow.Author.Tests.{eq-eqb, ne-eqb}
 use Rattle.wildmatch.proofs.broken.may_break.Statement.{statement}
 use Rattle.wildmatch.proofs.broken.may_break.Tie as tie

@@ -21,7 +21,11 @@ enum-known-accepts : tie.Need-enum-known-accepts
 enum-known-accepts c = search needs
 
 add-sized : tie.Need-add-sized
-add-sized c = let h = class-fits _ _ _ _ _ _ (c .before .before .before .test-class .ensures) (c .before .accepts .given .1) in omega arith
+add-sized c =
+    let at-accepts = c .before in
+    let at-test-class = at-accepts .before .before in
+    let h = class-fits _ _ _ _ _ _ (at-test-class .test-class .ensures) (at-accepts .accepts .given .1) in
+    omega arith
 
 sized-requires : tie.Need-sized-requires
 sized-requires c κs = search needs
@@ -30,7 +34,12 @@ returns-2 : tie.Need-returns-2
 returns-2 c = class-bad _ _ _ _ (c .before .before .test-class .ensures) (c .enum-told .given .1)
 
 returns-3 : tie.Need-returns-3
-returns-3 c = class-read _ _ _ _ _ _ _ _ (c .before .before .before .before .before .before .is-inside .ensures) (c .before .before .before .before .before .if1 .left) (c .before .before .before .before .test-class .ensures) (c .before .before .accepts .given .1) (c .sized .ensures)
+returns-3 c =
+    let at-accepts = c .before .before in
+    let at-test-class = at-accepts .before .before in
+    let at-if1 = at-test-class .before in
+    let at-is-inside = at-if1 .before in
+    class-read _ _ _ _ _ _ _ _ (at-is-inside .is-inside .ensures) (at-if1 .if1 .left) (at-test-class .test-class .ensures) (at-accepts .accepts .given .1) (c .sized .ensures)
 
 pub class-takes-spec : {M : Type 1} → statement M
 class-takes-spec =

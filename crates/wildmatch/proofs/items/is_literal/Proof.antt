@@ -1,5 +1,5 @@
 -- `wildmatch::items::is_literal` meets its contract: the four signs are told apart.
-use Rattle.wildmatch.specs.Outcomes.{isLiteral}
+use Rattle.wildmatch.specs.inner.Outcomes.{isLiteral}
 use borrow.Author.Tests.{eq-eqb, ne-eqb}
 use Rattle.wildmatch.proofs.items.is_literal.Statement.{statement}
 use Rattle.wildmatch.proofs.items.is_literal.Tie as tie

@@ -21,7 +21,12 @@ sized-requires : tie.Need-sized-requires
 sized-requires c κs = search needs
 
 returns-2 : tie.Need-returns-2
-returns-2 c = taken-plain _ _ _ _ _ (c .before .before .before .before .before .if1 .left) (sym (c .before .before .before .is-literal .ensures) ∙ c .before .before .if2 .taken) (c .before .same .ensures) (c .sized .ensures)
+returns-2 c =
+    let at-same = c .before in
+    let at-if2 = at-same .before in
+    let at-is-literal = at-if2 .before in
+    let at-if1 = at-is-literal .before .before in
+    taken-plain _ _ _ _ _ (at-if1 .if1 .left) (sym (at-is-literal .is-literal .ensures) ∙ at-if2 .if2 .taken) (at-same .same .ensures) (c .sized .ensures)
 
 other-takes-requires : tie.Need-other-takes-requires
 other-takes-requires c κs = search needs

@@ -23,7 +23,11 @@ sized-requires : tie.Need-sized-requires
 sized-requires c κs = search needs
 
 returns-3 : tie.Need-returns-3
-returns-3 c = taken-escaped _ _ _ _ _ (c .before .before .before .before .if2 .taken) (c .before .before .before .if3 .left) (c .before .same .ensures) (c .sized .ensures)
+returns-3 c =
+    let at-same = c .before in
+    let at-if3 = at-same .before .before in
+    let at-if2 = at-if3 .before in
+    taken-escaped _ _ _ _ _ (at-if2 .if2 .taken) (at-if3 .if3 .left) (at-same .same .ensures) (c .sized .ensures)
 
 is-inside-requires : tie.Need-is-inside-requires
 is-inside-requires c κs = search needs
@@ -32,10 +36,19 @@ sized-requires-2 : tie.Need-sized-requires-2
 sized-requires-2 c κs = search needs
 
 returns-4 : tie.Need-returns-4
-returns-4 c = taken-any _ _ _ _ _ (c .before .before .before .before .before .if1 .left) (c .before .before .before .if2 .left) (c .before .before .if4 .taken) (c .before .is-inside .ensures) (c .sized2 .ensures)
+returns-4 c =
+    let at-is-inside = c .before in
+    let at-if4 = at-is-inside .before in
+    let at-if2 = at-if4 .before in
+    let at-if1 = at-if2 .before .before in
+    taken-any _ _ _ _ _ (at-if1 .if1 .left) (at-if2 .if2 .left) (at-if4 .if4 .taken) (at-is-inside .is-inside .ensures) (c .sized2 .ensures)
 
 returns-5 : tie.Need-returns-5
-returns-5 c = taken-star _ _ _ (c .before .before .before .before .if1 .left) (c .before .before .if2 .left) (c .before .if4 .left) (c .if5 .taken)
+returns-5 c =
+    let at-if4 = c .before in
+    let at-if2 = at-if4 .before in
+    let at-if1 = at-if2 .before .before in
+    taken-star _ _ _ (at-if1 .if1 .left) (at-if2 .if2 .left) (at-if4 .if4 .left) (c .if5 .taken)
 
 sub-class-takes : tie.Need-sub-class-takes
 sub-class-takes c = search needs
@@ -50,7 +63,13 @@ class-takes-requires : tie.Need-class-takes-requires
 class-takes-requires c κs = search needs
 
 returns-6 : tie.Need-returns-6
-returns-6 c = taken-class _ _ _ _ (c .before .before .before .before .before .before .before .if1 .left) (c .before .before .before .before .before .if2 .left) (c .before .before .before .before .if4 .left) (c .before .before .before .if5 .left) (c .before .before .if6 .taken) (c .class-takes .ensures)
+returns-6 c =
+    let at-if6 = c .before .before in
+    let at-if5 = at-if6 .before in
+    let at-if4 = at-if5 .before in
+    let at-if2 = at-if4 .before in
+    let at-if1 = at-if2 .before .before in
+    taken-class _ _ _ _ (at-if1 .if1 .left) (at-if2 .if2 .left) (at-if4 .if4 .left) (at-if5 .if5 .left) (at-if6 .if6 .taken) (c .class-takes .ensures)
 
 same-requires-2 : tie.Need-same-requires-2
 same-requires-2 c κs = search needs
@@ -59,7 +78,14 @@ sized-requires-3 : tie.Need-sized-requires-3
 sized-requires-3 c κs = search needs
 
 returns-7 : tie.Need-returns-7
-returns-7 c = taken-literal _ _ _ _ _ (c .before .before .before .before .before .before .before .if1 .left) (c .before .before .before .before .before .if2 .left) (c .before .before .before .before .if4 .left) (c .before .before .before .if5 .left) (c .before .before .if6 .left) (c .before .same2 .ensures) (c .sized3 .ensures)
+returns-7 c =
+    let at-same2 = c .before in
+    let at-if6 = at-same2 .before in
+    let at-if5 = at-if6 .before in
+    let at-if4 = at-if5 .before in
+    let at-if2 = at-if4 .before in
+    let at-if1 = at-if2 .before .before in
+    taken-literal _ _ _ _ _ (at-if1 .if1 .left) (at-if2 .if2 .left) (at-if4 .if4 .left) (at-if5 .if5 .left) (at-if6 .if6 .left) (at-same2 .same2 .ensures) (c .sized3 .ensures)
 
 pub other-takes-spec : {M : Type 1} → statement M
 other-takes-spec =

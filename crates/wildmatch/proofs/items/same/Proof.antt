@@ -14,7 +14,11 @@ returns : tie.Need-returns
 returns c = same-folded _ _ _ _ (c .before .before .if1 .taken) (c .before .to-lower .ensures) (c .if2 .taken)
 
 returns-2 : tie.Need-returns-2
-returns-2 c = same-upper _ _ _ _ _ (c .before .before .before .if1 .taken) (c .before .before .to-lower .ensures) (c .before .if2 .left) (c .to-upper .ensures)
+returns-2 c =
+    let at-if2 = c .before in
+    let at-to-lower = at-if2 .before in
+    let at-if1 = at-to-lower .before in
+    same-upper _ _ _ _ _ (at-if1 .if1 .taken) (at-to-lower .to-lower .ensures) (at-if2 .if2 .left) (c .to-upper .ensures)
 
 returns-3 : tie.Need-returns-3
 returns-3 c = same-plain _ _ _ (c .if1 .left)

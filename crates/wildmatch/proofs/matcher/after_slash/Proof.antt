@@ -5,11 +5,12 @@ use mathlib.Core.Path.{_≡_}
 use lib.ListN.{length, getD}
 use native.Mathlib.Omega.{arith}
 use borrow.Author.Count.{below-more}
+use Rattle.bytestrings.specs.Text.{char}
 use Rattle.wildmatch.proofs.matcher.after_slash.Statement.{statement}
 use Rattle.wildmatch.proofs.matcher.after_slash.Tie as tie
 
 abbrev Inv-loop : tie.InvT-loop
-Inv-loop t k j₀ j = (k ≤ j) × (j ≤ length t) × ((i : ℕ) → i < j → k ≤ i → getD t i 0 ≡ 47 → ⊥)
+Inv-loop t k j₀ j = (k ≤ j) × (j ≤ length t) × ((i : ℕ) → i < j → k ≤ i → getD t i 0 ≡ char "/" → ⊥)
 
 abbrev μ-loop : tie.MeasureT-loop
 μ-loop t k j₀ j = length t - j
@@ -24,7 +25,10 @@ add-result : tie.Need-add-result Inv-loop μ-loop
 add-result c = omega arith
 
 returns : tie.Need-returns Inv-loop μ-loop
-returns c = slash-found _ _ _ (c .before .before .before .loop .inv .0) (c .before .before .loop-test .taken) (c .if1 .taken) (c .before .before .before .loop .inv .2)
+returns c =
+    let at-loop-test = c .before .before in
+    let at-loop = at-loop-test .before in
+    slash-found _ _ _ (at-loop .loop .inv .0) (at-loop-test .loop-test .taken) (c .if1 .taken) (at-loop .loop .inv .2)
 
 add-j : tie.Need-add-j Inv-loop μ-loop
 add-j c = omega arith

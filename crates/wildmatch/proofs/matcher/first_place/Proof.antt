@@ -1,5 +1,5 @@
 -- `wildmatch::matcher::first_place` meets its contract: the start, or after the first `/`.
-use Rattle.wildmatch.specs.Outcomes.{FirstPlace}
+use Rattle.wildmatch.specs.inner.Outcomes.{FirstPlace}
 use borrow.Author.Needs.{needs}
 use Rattle.wildmatch.proofs.matcher.first_place.Statement.{statement}
 use Rattle.wildmatch.proofs.matcher.first_place.Tie as tie

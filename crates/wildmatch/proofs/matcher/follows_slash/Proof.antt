@@ -1,4 +1,4 @@
--- `wildmatch::matcher::follows_slash` meets its contract: the byte before the place, or what is said of place 0.
+-- `wildmatch::matcher::follows_slash` meets its contract: the byte before the place, or what is known of place 0.
 use Rattle.wildmatch.proofs.MatcherLaws.{after-start, after-later}
 use borrow.Author.Needs.{needs}
 use Rattle.wildmatch.proofs.matcher.follows_slash.Statement.{statement}

@@ -26,10 +26,17 @@ starts-slash-requires : tie.Need-starts-slash-requires
 starts-slash-requires c κs = search needs
 
 returns-3 : tie.Need-returns-3
-returns-3 c = ends-escaped _ _ (c .before .before .before .before .before .if1 .left) (c .before .before .before .if2 .left) (c .before .before .if3 .taken) (c .starts-slash .ensures)
+returns-3 c =
+    let at-if3 = c .before .before in
+    let at-if2 = at-if3 .before in
+    let at-if1 = at-if2 .before .before in
+    ends-escaped _ _ (at-if1 .if1 .left) (at-if2 .if2 .left) (at-if3 .if3 .taken) (c .starts-slash .ensures)
 
 returns-4 : tie.Need-returns-4
-returns-4 c = ends-not _ (c .before .before .before .if1 .left) (c .before .if2 .left) (c .if3 .left)
+returns-4 c =
+    let at-if2 = c .before in
+    let at-if1 = at-if2 .before .before in
+    ends-not _ (at-if1 .if1 .left) (at-if2 .if2 .left) (c .if3 .left)
 
 pub component-ends-spec : {M : Type 1} → statement M
 component-ends-spec =

@@ -1,4 +1,4 @@
--- `wildmatch::segment::match_segment` meets its contract: whatever an outcome says of what is left, it says of the whole; each turn is one law.
+-- `wildmatch::segment::match_segment` meets its contract: whatever an outcome means for what is left, it means for the whole; each turn is one law.
 use borrow.Author.Needs.{needs}
 use Rattle.wildmatch.proofs.SegmentLaws.{Along, along-begin, along-fits, along-next, along-run, along-short, along-mismatch, along-whole, along-long}
 use Prim.Native.Nat.{_-_}
@@ -21,10 +21,17 @@ shared-slice-read-if1 : tie.Need-shared-slice-read-if1 Inv-loop μ-loop
 shared-slice-read-if1 c = omega arith
 
 returns : tie.Need-returns Inv-loop μ-loop
-returns c = along-run _ _ _ _ _ (c .before .before .before .loop .inv) (c .before .before .loop-test .taken) (c .if1 .taken)
+returns c =
+    let at-loop-test = c .before .before in
+    let at-loop = at-loop-test .before in
+    along-run _ _ _ _ _ (at-loop .loop .inv) (at-loop-test .loop-test .taken) (c .if1 .taken)
 
 returns-2 : tie.Need-returns-2 Inv-loop μ-loop
-returns-2 c = along-short _ _ _ _ _ (c .before .before .before .before .loop .inv) (c .before .before .before .loop-test .taken) (c .before .if1 .left) (c .if2 .taken)
+returns-2 c =
+    let at-if1 = c .before in
+    let at-loop-test = at-if1 .before .before in
+    let at-loop = at-loop-test .before in
+    along-short _ _ _ _ _ (at-loop .loop .inv) (at-loop-test .loop-test .taken) (at-if1 .if1 .left) (c .if2 .taken)
 
 sub-item-takes : tie.Need-sub-item-takes Inv-loop μ-loop
 sub-item-takes c = omega arith
@@ -42,19 +49,45 @@ item-takes-requires : tie.Need-item-takes-requires Inv-loop μ-loop
 item-takes-requires c κs = search needs
 
 returns-3 : tie.Need-returns-3 Inv-loop μ-loop
-returns-3 c = along-mismatch _ _ _ _ _ (c .before .before .before .before .before .before .before .before .loop .inv) (c .before .before .before .before .before .before .before .loop-test .taken) (c .before .before .before .before .if2 .left) (c .before .before .before .before .before .if1 .left) (sym (c .if3 .taken) ∙ c .before .item-takes .ensures)
+returns-3 c =
+    let at-item-takes = c .before in
+    let at-if2 = at-item-takes .before .before .before in
+    let at-if1 = at-if2 .before in
+    let at-loop-test = at-if1 .before .before in
+    let at-loop = at-loop-test .before in
+    along-mismatch _ _ _ _ _ (at-loop .loop .inv) (at-loop-test .loop-test .taken) (at-if2 .if2 .left) (at-if1 .if1 .left) (sym (c .if3 .taken) ∙ at-item-takes .item-takes .ensures)
 
 add-i : tie.Need-add-i Inv-loop μ-loop
-add-i c = let h = along-fits _ _ _ _ _ _ (c .before .before .before .before .before .before .before .before .loop .inv) (c .before .before .before .before .before .before .before .loop-test .taken) (c .before .before .before .before .if2 .left) (c .before .before .before .before .before .if1 .left) (c .before .item-takes .ensures) (c .if3 .left) in omega arith
+add-i c =
+    let at-item-takes = c .before in
+    let at-if2 = at-item-takes .before .before .before in
+    let at-if1 = at-if2 .before in
+    let at-loop-test = at-if1 .before .before in
+    let at-loop = at-loop-test .before in
+    let h = along-fits _ _ _ _ _ _ (at-loop .loop .inv) (at-loop-test .loop-test .taken) (at-if2 .if2 .left) (at-if1 .if1 .left) (at-item-takes .item-takes .ensures) (c .if3 .left) in
+    omega arith
 
 add-j : tie.Need-add-j Inv-loop μ-loop
 add-j c = omega arith
 
 loop-less : tie.Need-loop-less Inv-loop μ-loop
-loop-less c = let h = along-fits _ _ _ _ _ _ (c .before .before .before .before .before .before .before .before .loop .inv) (c .before .before .before .before .before .before .before .loop-test .taken) (c .before .before .before .before .if2 .left) (c .before .before .before .before .before .if1 .left) (c .before .item-takes .ensures) (c .if3 .left) in omega arith
+loop-less c =
+    let at-item-takes = c .before in
+    let at-if2 = at-item-takes .before .before .before in
+    let at-if1 = at-if2 .before in
+    let at-loop-test = at-if1 .before .before in
+    let at-loop = at-loop-test .before in
+    let h = along-fits _ _ _ _ _ _ (at-loop .loop .inv) (at-loop-test .loop-test .taken) (at-if2 .if2 .left) (at-if1 .if1 .left) (at-item-takes .item-takes .ensures) (c .if3 .left) in
+    omega arith
 
 loop-again : tie.Need-loop-again Inv-loop μ-loop
-loop-again c = along-next _ _ _ _ _ _ (c .before .before .before .before .before .before .before .before .loop .inv) (c .before .before .before .before .before .before .before .loop-test .taken) (c .before .before .before .before .if2 .left) (c .before .before .before .before .before .if1 .left) (c .before .item-takes .ensures) (c .if3 .left)
+loop-again c =
+    let at-item-takes = c .before in
+    let at-if2 = at-item-takes .before .before .before in
+    let at-if1 = at-if2 .before in
+    let at-loop-test = at-if1 .before .before in
+    let at-loop = at-loop-test .before in
+    along-next _ _ _ _ _ _ (at-loop .loop .inv) (at-loop-test .loop-test .taken) (at-if2 .if2 .left) (at-if1 .if1 .left) (at-item-takes .item-takes .ensures) (c .if3 .left)
 
 returns-4 : tie.Need-returns-4 Inv-loop μ-loop
 returns-4 c = along-whole _ _ _ _ _ (c .before .before .loop .inv) (c .before .loop-test .left) (c .if4 .taken)

@@ -1,6 +1,6 @@
 -- `wildmatch::skip::skip_inside` meets its contract: every place passed is inside.
 use Rattle.wildmatch.proofs.SkipLaws.{passed-begin, passed-next}
-use Rattle.wildmatch.specs.Outcomes.{Passed}
+use Rattle.wildmatch.specs.inner.Outcomes.{Passed}
 use mathlib.Core.Path.{sym, _∙_}
 use lib.ListN.{length}
 use Prim.Native.Nat.{_-_}
@@ -26,7 +26,10 @@ is-inside-requires : tie.Need-is-inside-requires Inv-loop μ-loop
 is-inside-requires c κs = search needs
 
 returns : tie.Need-returns Inv-loop μ-loop
-returns c = c .before .before .before .before .loop .inv
+returns c =
+    let at-shared-slice-known2 = c .before .before in
+    let at-loop = at-shared-slice-known2 .before .before in
+    at-loop .loop .inv
 
 add-j : tie.Need-add-j Inv-loop μ-loop
 add-j c = omega arith
@@ -35,7 +38,11 @@ loop-less : tie.Need-loop-less Inv-loop μ-loop
 loop-less c = omega arith
 
 loop-again : tie.Need-loop-again Inv-loop μ-loop
-loop-again c = passed-next _ _ _ _ _ (c .before .before .before .before .loop .inv) (c .before .before .before .loop-test .taken) (sym (c .before .is-inside .ensures) ∙ not-false _ (c .if1 .left)) tt
+loop-again c =
+    let at-is-inside = c .before in
+    let at-loop-test = at-is-inside .before .before in
+    let at-loop = at-loop-test .before in
+    passed-next _ _ _ _ _ (at-loop .loop .inv) (at-loop-test .loop-test .taken) (sym (at-is-inside .is-inside .ensures) ∙ not-false _ (c .if1 .left)) tt
 
 returns-2 : tie.Need-returns-2 Inv-loop μ-loop
 returns-2 c = c .before .loop .inv

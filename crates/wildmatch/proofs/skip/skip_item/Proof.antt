@@ -1,6 +1,6 @@
 -- `wildmatch::skip::skip_item` meets its contract.
 use Rattle.wildmatch.proofs.SkipLaws.{passed-begin, passed-next}
-use Rattle.wildmatch.specs.Outcomes.{taken, Passed}
+use Rattle.wildmatch.specs.inner.Outcomes.{taken, Passed}
 use mathlib.Core.Path.{_≡_, sym, _∙_}
 use lib.ListN.{length, getD}
 use Prim.Native.Nat.{_-_}
@@ -26,13 +26,19 @@ other-takes-requires : tie.Need-other-takes-requires Inv-loop μ-loop
 other-takes-requires c κs = search needs
 
 returns : tie.Need-returns Inv-loop μ-loop
-returns c = c .before .before .before .before .loop .inv
+returns c =
+    let at-shared-slice-known3 = c .before .before in
+    let at-loop = at-shared-slice-known3 .before .before in
+    at-loop .loop .inv
 
 is-inside-requires : tie.Need-is-inside-requires Inv-loop μ-loop
 is-inside-requires c κs = search needs
 
 returns-2 : tie.Need-returns-2 Inv-loop μ-loop
-returns-2 c = c .before .before .before .before .before .before .loop .inv
+returns-2 c =
+    let at-other-takes = c .before .before .before in
+    let at-loop = at-other-takes .before .before .before in
+    at-loop .loop .inv
 
 add-j : tie.Need-add-j Inv-loop μ-loop
 add-j c = omega arith
@@ -41,7 +47,14 @@ loop-less : tie.Need-loop-less Inv-loop μ-loop
 loop-less c = omega arith
 
 loop-again : tie.Need-loop-again Inv-loop μ-loop
-loop-again c = passed-next _ _ _ _ _ (c .before .before .before .before .before .before .loop .inv) (c .before .before .before .before .before .loop-test .taken) (sym (c .before .is-inside .ensures) ∙ not-false _ (c .if2 .left)) (sym (c .before .before .before .other-takes .ensures) ∙ c .before .before .if1 .left)
+loop-again c =
+    let at-is-inside = c .before in
+    let at-if1 = at-is-inside .before in
+    let at-other-takes = at-if1 .before in
+    let at-loop-test = at-other-takes .before .before in
+    let at-loop = at-loop-test .before in
+    passed-next _ _ _ _ _ (at-loop .loop .inv) (at-loop-test .loop-test .taken) (sym (at-is-inside .is-inside .ensures) ∙ not-false _ (c .if2 .left)) (sym (at-other-takes .other-takes .ensures)
+    ∙ at-if1 .if1 .left)
 
 returns-3 : tie.Need-returns-3 Inv-loop μ-loop
 returns-3 c = c .before .loop .inv

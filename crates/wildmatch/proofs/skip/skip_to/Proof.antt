@@ -1,4 +1,4 @@
--- `wildmatch::skip::skip_to` meets its contract: the pattern's first byte says what may be passed over.
+-- `wildmatch::skip::skip_to` meets its contract: the pattern's first byte shows what may be passed over.
 use Rattle.wildmatch.proofs.SkipLaws.{skipped-none, skipped-empty, skipped-literal, skipped-item}
 use mathlib.Core.Path.{sym, _∙_}
 use borrow.Author.Needs.{needs}
@@ -21,16 +21,28 @@ skip-literal-requires : tie.Need-skip-literal-requires
 skip-literal-requires c κs = search needs
 
 returns-2 : tie.Need-returns-2
-returns-2 c = skipped-literal _ _ _ _ _ (c .before .before .before .before .if1 .left) (sym (c .before .before .is-literal .ensures) ∙ c .before .if2 .taken) (c .skip-literal .ensures)
+returns-2 c =
+    let at-if2 = c .before in
+    let at-is-literal = at-if2 .before in
+    let at-if1 = at-is-literal .before .before in
+    skipped-literal _ _ _ _ _ (at-if1 .if1 .left) (sym (at-is-literal .is-literal .ensures) ∙ at-if2 .if2 .taken) (c .skip-literal .ensures)
 
 returns-3 : tie.Need-returns-3
-returns-3 c = skipped-none _ _ _ _ (c .before .before .before .before .before .before .before .pre)
+returns-3 c =
+    let at-is-literal = c .before .before in
+    let at-if1 = at-is-literal .before .before in
+    let at-start = at-if1 .before .before .before in
+    skipped-none _ _ _ _ (at-start .pre)
 
 skip-item-requires : tie.Need-skip-item-requires
 skip-item-requires c κs = search needs
 
 returns-4 : tie.Need-returns-4
-returns-4 c = skipped-item _ _ _ _ _ (c .before .before .before .before .before .if1 .left) (c .before .if3 .left) (c .skip-item .ensures)
+returns-4 c =
+    let at-if3 = c .before in
+    let at-is-literal = at-if3 .before .before in
+    let at-if1 = at-is-literal .before .before in
+    skipped-item _ _ _ _ _ (at-if1 .if1 .left) (at-if3 .if3 .left) (c .skip-item .ensures)
 
 pub skip-to-spec : {M : Type 1} → statement M
 skip-to-spec =

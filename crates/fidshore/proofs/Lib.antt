@@ -1,0 +1,2 @@
+-- Theorem: from a code back to its condition.
+pub mod CodeMeaning
