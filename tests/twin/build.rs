@@ -10,7 +10,7 @@ fn main() {
     };
     println!("cargo:rustc-link-search=native={}", dir.display());
     println!("cargo:rerun-if-env-changed=FIDSHORE_ARCHIVE_DIR");
-    for (feature, name) in [("CARGO_FEATURE_FIDSHORE", "fidshore"), ("CARGO_FEATURE_PROBER", "testcalls")] {
+    for (feature, name) in [("CARGO_FEATURE_FIDSHORE", "fidshore"), ("CARGO_FEATURE_TESTCALLS", "testcalls")] {
         if env::var_os(feature).is_some() {
             println!("cargo:rustc-link-lib=static={name}");
             // A new archive must be linked again.

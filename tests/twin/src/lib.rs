@@ -30,7 +30,7 @@ pub mod program;
 pub mod random;
 pub mod timing;
 
-// The matcher's own tests, by the C call or by the testcalls.
+// The matcher's own tests, by the C call or by `testcalls`.
 pub mod boundary;
 pub mod broken;
 pub mod check;

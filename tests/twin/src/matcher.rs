@@ -1,4 +1,4 @@
-//! How an archive's matcher is asked: what the C call and the testcalls share, and
+//! How an archive's matcher is asked: what the C call and `testcalls` share, and
 //! a safe way to ask either.
 use crate::answer::Answer;
 use crate::crash;

@@ -1,4 +1,4 @@
-//! A class name by its number, and a byte: the testcalls's call against the twin,
+//! A class name by its number, and a byte: the call of `testcalls` against the twin,
 //! for the twelve and for numbers that are no names.
 use crate::class::{twelve, TWELVE};
 

@@ -1,4 +1,4 @@
-//! The matcher by the testcalls: the code number, and the place where the pattern
+//! The matcher by `testcalls`: the code number, and the place where the pattern
 //! is broken in a lent list of numbers.
 use crate::answer::Answer;
 use crate::matcher::Matcher;

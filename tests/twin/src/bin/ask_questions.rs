@@ -5,12 +5,12 @@
 //! usage: ask_questions [twin]
 use std::env::args;
 use std::io::{stdin, stdout, BufRead, BufWriter, Write};
-use twin::asking::testcalls::Prober;
+use twin::asking::testcalls::TestCalls;
 use twin::asking::{form, Asks};
 use twin::reader;
 
 fn main() {
-    let mut testcalls = Prober::default();
+    let mut testcalls = TestCalls::default();
     let twin = args().nth(1).is_some_and(|word| word == "twin");
     let mut out = BufWriter::new(stdout().lock());
     for line in stdin().lock().lines() {

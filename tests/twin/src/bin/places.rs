@@ -1,4 +1,4 @@
-//! The matcher by the testcalls against the twin: the code, and the place where a
+//! The matcher by `testcalls` against the twin: the code, and the place where a
 //! pattern is broken; of each pattern alone too. And each class name, by its
 //! number, with each byte.
 //!

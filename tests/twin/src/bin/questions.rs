@@ -3,7 +3,7 @@
 //!
 //! usage: questions [random questions, default 200000] [seed, default 1] [quick|full, default quick]
 use twin::asking::check::{Check, Count};
-use twin::asking::testcalls::Prober;
+use twin::asking::testcalls::TestCalls;
 use twin::cases::lending::Extent;
 use twin::cases::{self, hostile, layers};
 use twin::crash;
@@ -20,7 +20,7 @@ fn main() {
 }
 
 fn parts(cases: u64, seed: u64, full: bool) -> Vec<Count> {
-    let mut check = Check::new(Prober::default());
+    let mut check = Check::new(TestCalls::default());
     let mut random = Random::new(seed);
     let mut counts = cases::shared(&mut check, &mut random, cases, Extent::Many, if full { 5 } else { 4 }, |_| ());
     counts.push(cases::law(&mut check, &mut random, cases, Extent::Many, "layers", layers::run));

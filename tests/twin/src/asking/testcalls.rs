@@ -48,11 +48,11 @@ struct Places<'a> {
 }
 
 #[derive(Default)]
-pub struct Prober {
+pub struct TestCalls {
     lent: Lent,
 }
 
-impl Asks for Prober {
+impl Asks for TestCalls {
     const COMPLETE: bool = true;
 
     fn ask(&mut self, question: &Question) -> Answer {
