@@ -14,7 +14,7 @@
  *
  * The calls take one rule file at the archive's top. All files here stand at
  * the top (base 0), so they are laid end to end, lowest first, and asked about
- * as one. That is safe: rules are lines in an order, the last one that speaks of
+ * as one. That is safe: rules are lines in an order, the last one that has an effect on
  * an entry wins, and laid so the lines are those of the fleet file and then
  * those of the site file, byte for byte. lay() minds the two things that could
  * change a line where two files meet. All layers together may have 65,536 bytes;

@@ -57,7 +57,7 @@ extern "C" {
 #define FIDSHORE_MATCH 1
 #define FIDSHORE_BROKEN 2
 
-/* The code of both questions where no line speaks. */
+/* The code of both questions where no line decides. */
 #define FIDSHORE_NOTHING_SAID 0
 
 /* Other codes of fidshore_ignore. */
@@ -149,7 +149,7 @@ uint32_t fidshore_ignore(const uint8_t *rules, size_t rules_len,
  *        only: the name is always compared byte by byte).
  * Codes: FIDSHORE_SET (`fill`), FIDSHORE_UNSET (`-fill`), FIDSHORE_VALUE
  *        (`fill=mean`; the value is not told), FIDSHORE_UNSPECIFIED (`!fill`: a
- *        line says so), FIDSHORE_NOTHING_SAID (no line speaks);
+ *        line says so), FIDSHORE_NOTHING_SAID (no line decides);
  *        16 plus refusal 1, 3, 4, 5, 6 or 9.
  * Limits: 65,536 rule bytes, 2,048 a line, 4,096 of path, 255 of name.
  * Stack: at most 143 KB. Time: 0.7 us for 10 lines and 26 us for 1,000; the

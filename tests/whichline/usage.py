@@ -1,5 +1,6 @@
 """Wrong usage, and files and streams that fail: one line on standard error, and no answer."""
 import os
+import pathlib
 import subprocess
 
 from program import CONTROLS, field
@@ -86,13 +87,14 @@ def streams(trial):
 
 
 def helps(trial):
-    """--help, wherever it stands: on standard output, with every option and word; nothing is read or asked."""
+    """--help, wherever it stands: help.txt on standard output, byte for byte, with every option and word; nothing is read or asked."""
+    page = (pathlib.Path(__file__).resolve().parent / "help.txt").read_bytes()
     for asked in (["--help"], ["ignore", "--help"], ["attribute", "--help"], ["ignore", "missing", "--help"], ["--bad", "--help"]):
         trial.asked += 1
         done = trial.run(asked, b"a\n", installed=True)
         missing = [word for word in HELP if word not in done.stdout]
-        if missing or done.stderr or done.returncode or not done.stdout.endswith(b"\n"):
-            trial.fault(f"help by {asked}", f"status {done.returncode}, said {done.stderr!r}, without {missing}")
+        if missing or done.stdout != page or done.stderr or done.returncode:
+            trial.fault(f"help by {asked}", f"status {done.returncode}, said {done.stderr!r}, without {missing}, or not help.txt")
 
 
 def check(trial):

@@ -1,5 +1,6 @@
 // What several crates need of bytes and none owns: whether two slices are the same, where a byte stands, the two cases of a letter (letters.rt).
 // The lowest crate: its laws on lists, slices and tests stand once, here, for all others.
+// For a user: docs/RULES.md, "Folding case".
 ghost use mathlib.Core.Path.{_≡_};
 ghost use Prim.Native.Nat.{_+_};
 ghost use lib.Dec.{eqb};

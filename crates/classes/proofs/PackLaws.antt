@@ -56,39 +56,39 @@ packed-small (x ∷ s) h = let l = packed-small s (λ i. h (suc i)) in let b = h
 
 -- The loop over the bytes of a name, from its end.
 
-pub number-end : (s : List ℕ) → 1 ≡ packed (drop (length s) s)
+pub pack-end : (s : List ℕ) → 1 ≡ packed (drop (length s) s)
 unfolding packed
-number-end s = rw (drop-of-length-le s {i = length s} (omega arith)) refl
+pack-end s = rw (drop-of-length-le s {i = length s} (omega arith)) refl
 
 module _ (s : List ℕ) (i number : ℕ) (hi : 0 < i) (h : i ≤ length s) (e : number ≡ packed (drop i s)) where
-  pub number-more : number * 256 + getD s (i - 1) 0 ≡ packed (drop (i - 1) s)
+  pub pack-more : number * 256 + getD s (i - 1) 0 ≡ packed (drop (i - 1) s)
   unfolding packed
-  number-more =
+  pack-more =
       let f : i ≡ suc (i - 1) = omega arith in
       ap (λ (w : ℕ). w * 256 + getD s (i - 1) 0) (e ∙ ap (λ (n : ℕ). packed (drop n s)) f) ∙ ap packed (sym (drop-cons s (i - 1) 0 (omega arith)))
 
-  pub number-fits : Bytes s → length s ≤ 7 → number * 256 + getD s (i - 1) 0 < 2 ^ 64
-  number-fits b l =
+  pub pack-fits : Bytes s → length s ≤ 7 → number * 256 + getD s (i - 1) 0 < 2 ^ 64
+  pack-fits b l =
       let m = packed-small (drop (i - 1) s) (λ j. subst (λ (x : ℕ). x < 256) (sym (getD-drop (i - 1) s j 0)) (b (i - 1 + j))) in
       let n : length (drop (i - 1) s) < 8 = simp length-drop (omega arith) in
       let k = leb-true (bound (length (drop (i - 1) s))) (bound 7) (all-at 8 (λ n. leb (bound n) (bound 7)) refl (length (drop (i - 1) s)) n) in
-      omega (arith, number-more)
+      omega (arith, pack-more)
 
-pub number-long : (s : List ℕ) → 7 < length s → 0 ≡ packedName s
+pub pack-long : (s : List ℕ) → 7 < length s → 0 ≡ packedName s
 unfolding packedName
-number-long s h = rw (lt-leb _ _ h) refl
+pack-long s h = rw (lt-leb _ _ h) refl
 
-pub number-whole : (s : List ℕ) (i number : ℕ) → length s ≤ 7 → i ≤ 0 → number ≡ packed (drop i s) → number ≡ packedName s
+pub pack-whole : (s : List ℕ) (i number : ℕ) → length s ≤ 7 → i ≤ 0 → number ≡ packed (drop i s) → number ≡ packedName s
 unfolding packedName
-number-whole s zero number h l e = rw (le-leb _ _ h) e
-number-whole s (suc i) number h l e = absurd (omega arith)
+pack-whole s zero number h l e = rw (le-leb _ _ h) e
+pack-whole s (suc i) number h l e = absurd (omega arith)
 
 -- The twelve names.
 
 -- the table's rule
-number-rule : (k : ℕ) → k < 12 → getD packedNames k 0 ≡ packed (getD names k [])
+pack-rule : (k : ℕ) → k < 12 → getD packedNames k 0 ≡ packed (getD names k [])
 unfolding table names packed
-number-rule k h = eqb-true _ _ (all-at 12 (λ i. eqb (getD packedNames i 0) (packed (getD names i []))) refl k h)
+pack-rule k h = eqb-true _ _ (all-at 12 (λ i. eqb (getD packedNames i 0) (packed (getD names i []))) refl k h)
 
 -- its names are bytes, and none has more than seven
 abbrev small : List ℕ → Bool
@@ -108,9 +108,9 @@ name-short : (k : ℕ) → k < 12 → length (getD names k []) ≤ 7
 unfolding table names
 name-short k h = leb-true _ _ (all-at 12 (λ i. leb (length (getD names i [])) 7) refl k h)
 
-number-same : (a : List ℕ) (k : ℕ) → k < 12 → Bytes a → sameBytes a (getD names k []) ≡ eqb (packedName a) (getD packedNames k 0)
+pack-same : (a : List ℕ) (k : ℕ) → k < 12 → Bytes a → sameBytes a (getD names k []) ≡ eqb (packedName a) (getD packedNames k 0)
 unfolding packedName
-number-same a k hk b = rw (number-rule k hk) (go (leb (length a) 7) refl)
+pack-same a k hk b = rw (pack-rule k hk) (go (leb (length a) 7) refl)
   where
     go : (t : Bool) → leb (length a) 7 ≡ t → sameBytes a (getD names k []) ≡ eqb (cond t (packed a) 0) (packed (getD names k []))
     go true e = packed-same a (getD names k []) b (name-bytes k hk)
@@ -131,7 +131,7 @@ which-start a = sym (zero-add _)
 module _ (a : List ℕ) (k v w : ℕ) (s : NotBefore a k) (b : Bytes a) (e : v ≡ packedName a) (f : w ≡ getD packedNames k 0) (h : k < 12) where
   place : (t : Bool) → eqb v w ≡ t → placeIn a (drop k names) ≡ cond t 0 (suc (placeIn a (drop (suc k) names)))
   unfolding table names
-  place t c = rw (drop-cons names k [] h, number-same a k h b, ← e, ← f, c) refl
+  place t c = rw (drop-cons names k [] h, pack-same a k h b, ← e, ← f, c) refl
 
   pub which-here : v ≡ w → k ≡ whichName a
   which-here c = let z = place true (eq-eqb v w c) in omega arith
@@ -144,12 +144,12 @@ unfolding table names
 which-end a k s e = let z : placeIn a (drop k names) ≡ 0 = rw e refl in omega arith
 
 -- five bytes, written out
-pub number-five : (s : List ℕ) → length s ≡ 5 → ((((256 + getD s 4 0) * 256 + getD s 3 0) * 256 + getD s 2 0) * 256 + getD s 1 0) * 256 + getD s 0 0 ≡ packedName s
+pub pack-five : (s : List ℕ) → length s ≡ 5 → ((((256 + getD s 4 0) * 256 + getD s 3 0) * 256 + getD s 2 0) * 256 + getD s 1 0) * 256 + getD s 0 0 ≡ packedName s
 unfolding packedName packed
-number-five [] h = absurd (omega arith)
-number-five (a ∷ []) h = absurd (omega arith)
-number-five (a ∷ b ∷ []) h = absurd (omega arith)
-number-five (a ∷ b ∷ c ∷ []) h = absurd (omega arith)
-number-five (a ∷ b ∷ c ∷ d ∷ []) h = absurd (omega arith)
-number-five (a ∷ b ∷ c ∷ d ∷ e ∷ []) h = refl
-number-five (a ∷ b ∷ c ∷ d ∷ e ∷ f ∷ s) h = absurd (omega arith)
+pack-five [] h = absurd (omega arith)
+pack-five (a ∷ []) h = absurd (omega arith)
+pack-five (a ∷ b ∷ []) h = absurd (omega arith)
+pack-five (a ∷ b ∷ c ∷ []) h = absurd (omega arith)
+pack-five (a ∷ b ∷ c ∷ d ∷ []) h = absurd (omega arith)
+pack-five (a ∷ b ∷ c ∷ d ∷ e ∷ []) h = refl
+pack-five (a ∷ b ∷ c ∷ d ∷ e ∷ f ∷ s) h = absurd (omega arith)

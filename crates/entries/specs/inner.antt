@@ -1,2 +1,2 @@
--- Definitions that only the contracts of private functions cite.
+-- Definitions that no public contract cites.
 pub mod Prefilter

@@ -1,2 +1,2 @@
--- What a reader must believe, in the paper's order:
+-- What a reader must believe, each file before those that use it:
 pub mod Codes

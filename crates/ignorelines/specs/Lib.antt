@@ -1,4 +1,4 @@
--- What a reader must believe, in the paper's order:
+-- What a reader must believe, each file before those that use it:
 pub mod IgnoreLines
 -- Inner definitions, none of which a public contract cites:
 pub mod inner

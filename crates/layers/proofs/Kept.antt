@@ -60,12 +60,12 @@ module _ {A : Type 0} (effect : Line → Option A) where
 
   pub kept-answer : {chosen : Choice} {ls ms : List Line} → ((m : Line) (s : List ℕ) → m .bytes ≡ spaces s → effect m ≡ none) → Alike chosen ls ms
       → ((l : Line) → Decides effect ls l → chosen .line (l .file) (l .number) ≡ true → ⊥) → lastDecision effect ms ≡ lastDecision effect ls
-  kept-answer no-effect alike-nil spares = refl
-  kept-answer no-effect (alike-same {l = l} {m = m} {ls = ls} {ms = ms} e a) spares =
+  kept-answer no-effect alike-nil none-decides = refl
+  kept-answer no-effect (alike-same {l = l} {m = m} {ls = ls} {ms = ms} e a) none-decides =
       ap (λ (x : Line). override (decisionBy x (effect x)) (lastDecision effect ms)) e
-      ∙ ap (override (decisionBy l (effect l))) (kept-answer no-effect a (λ k d. spares k (decides-more l ls k d)))
-  kept-answer no-effect (alike-blank {l = l} {m = m} {ls = ls} {ms = ms} b a) spares =
+      ∙ ap (override (decisionBy l (effect l))) (kept-answer no-effect a (λ k d. none-decides k (decides-more l ls k d)))
+  kept-answer no-effect (alike-blank {l = l} {m = m} {ls = ls} {ms = ms} b a) none-decides =
       ap (λ (w : Option A). override (decisionBy m w) (lastDecision effect ms)) (no-effect m (b .raw) (b .all-spaces))
       ∙ override-none (lastDecision effect ms)
-      ∙ kept-answer no-effect a (λ k d. spares k (decides-more l ls k d))
-      ∙ sym (overridden l ls (λ d. spares l d (b .was-chosen)))
+      ∙ kept-answer no-effect a (λ k d. none-decides k (decides-more l ls k d))
+      ∙ sym (overridden l ls (λ d. none-decides l d (b .was-chosen)))

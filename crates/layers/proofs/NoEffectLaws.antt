@@ -1,4 +1,4 @@
--- Where no line has an effect, none of them has.
+-- Where no line of a list has an effect, a member of it has none.
 use mathlib.Core.Path.{_≡_, ap, _∙_}
 use mathlib.Core.Logic.{⊎-elim}
 use mathlib.Core.List.{List, [], _∷_, List·Memᴰ, List·Memᴰ·not-nil, List·Memᴰ·cases-cons}

@@ -63,24 +63,24 @@ module _ (path rules ends bases name : List ℕ) (flags : ℕ) where
   ignore-kept : (chosen : Choice) → Accepted (IgnoreRefuses path rules ends bases flags) → NoneDecidesVisited chosen path rules ends bases flags
       → ignoreAnswer path (blanked chosen rules ends bases) ends bases flags ≡ ignoreAnswer path rules ends bases flags
   unfolding ignoreAnswer NoneDecidesVisited verdict
-  ignore-kept chosen ok spares =
+  ignore-kept chosen ok none-decides =
       same-visited (verdict (folds flags) (orderedLines rules ends bases)) (verdict (folds flags) (orderedLines (blanked chosen rules ends bases) ends bases)) (parents path) (pathEntry path flags)
-      (λ e m. kept-answer (ignoreEffect (folds flags) e) (ignore-space (folds flags) e) (alike chosen ok) (spares e m))
+      (λ e m. kept-answer (ignoreEffect (folds flags) e) (ignore-space (folds flags) e) (alike chosen ok) (none-decides e m))
 
   attribute-kept : (chosen : Choice) → Accepted (AttributeRefuses path rules ends bases name flags) → NoneDecidesAttribute chosen path rules ends bases name flags
       → attributeAnswer path (blanked chosen rules ends bases) ends bases name flags ≡ attributeAnswer path rules ends bases name flags
   unfolding attributeAnswer NoneDecidesAttribute attributeState
-  attribute-kept chosen ok spares =
+  attribute-kept chosen ok none-decides =
       let e = pathEntry path flags in
-      ap stateAnswer (kept-answer (attributeEffect (folds flags) e name) (attribute-space (folds flags) e name) (alike chosen (attribute-accepted path rules ends bases flags name ok)) spares)
+      ap stateAnswer (kept-answer (attributeEffect (folds flags) e name) (attribute-space (folds flags) e name) (alike chosen (attribute-accepted path rules ends bases flags name ok)) none-decides)
 
   blanks : (chosen : Choice) → Blanks path rules ends bases name flags chosen
   blanks chosen =
       record {
-        ignore-accepted = λ ok spares. ignore-again path rules ends bases flags chosen ok;
-        ignore-same = λ ok spares answer again a b. b .accepted (ignore-again path rules ends bases flags chosen ok) ∙ ignore-kept chosen ok spares ∙ sym (a .accepted ok);
-        attribute-accepted = λ ok spares. attribute-again path rules ends bases flags chosen name ok;
-        attribute-same = λ ok spares answer again a b. b .accepted (attribute-again path rules ends bases flags chosen name ok) ∙ attribute-kept chosen ok spares ∙ sym (a .accepted ok);
+        ignore-accepted = λ ok none-decides. ignore-again path rules ends bases flags chosen ok;
+        ignore-same = λ ok none-decides answer again a b. b .accepted (ignore-again path rules ends bases flags chosen ok) ∙ ignore-kept chosen ok none-decides ∙ sym (a .accepted ok);
+        attribute-accepted = λ ok none-decides. attribute-again path rules ends bases flags chosen name ok;
+        attribute-same = λ ok none-decides answer again a b. b .accepted (attribute-again path rules ends bases flags chosen name ok) ∙ attribute-kept chosen ok none-decides ∙ sym (a .accepted ok);
       }
 
 pub layers-compose : (path rules ends bases name : List ℕ) (flags : ℕ) → LayersCompose path rules ends bases name flags

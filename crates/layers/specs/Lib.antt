@@ -1,4 +1,4 @@
--- What a reader must believe, in the paper's order:
+-- What a reader must believe, each file before those that use it:
 pub mod Parts
 pub mod Blanking
 pub mod Claim

@@ -21,7 +21,7 @@ at-place P [] i h p = absurd (omega arith)
 at-place P (x ∷ s) zero h p = (x, List·Memᴰ·head refl, p)
 at-place P (x ∷ s) (suc i) h p = let m = at-place P s i (omega arith) p in (m .0, List·Memᴰ·tail (m .1), m .2)
 
--- A scan from place i: before place j, `found` yes-iff whether such a byte was seen.
+-- A scan from place i: before place j, `found` is whether such a byte was seen.
 abbrev pub Scanned : (ℕ → Type 0) → List ℕ → Bool → ℕ → ℕ → Type 0
 Scanned P s found i j = (found ≡ true → ByteIn P s i j) × (found ≡ false → (k : ℕ) → k < j → i ≤ k → P (getD s k 0) → ⊥)
 

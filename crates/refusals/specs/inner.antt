@@ -1,4 +1,4 @@
--- Definitions that only the contracts of private functions cite.
+-- Definitions that no public contract cites.
 pub mod Places
 pub mod Scans
 pub mod Checks

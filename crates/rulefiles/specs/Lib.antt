@@ -1,3 +1,3 @@
--- What a reader must believe, in the paper's order:
+-- What a reader must believe, each file before those that use it:
 pub mod RuleFiles
 pub mod Decisions

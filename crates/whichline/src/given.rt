@@ -6,8 +6,6 @@ use crate::arguments;
 use crate::messages;
 use crate::reading;
 
-const SLASH: u8 = 47;
-
 // How far the arguments are read: the next one, the files so far, their bytes and the bytes of their directories, whether case is
 // folded, and whether all was right.
 pub struct Given {
@@ -68,7 +66,7 @@ pub fn without_slash(directory: &[u8]) -> &[u8]
     if n == 0 {
         return directory;
     }
-    if directory[n - 1] == SLASH {
+    if directory[n - 1] == b'/' {
         return &directory[..n - 1];
     }
     directory
@@ -95,7 +93,7 @@ fn put_directory(directory: &[u8], directories: &mut [u8], used: usize) -> usize
         return usize::MAX;
     }
     bytes::copy(bare, &mut directories[used..]);
-    directories[used + n] = SLASH;
+    directories[used + n] = b'/';
     used + n + 1
 }
 

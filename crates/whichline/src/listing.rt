@@ -8,8 +8,6 @@ use crate::messages;
 use crate::reading;
 use libc::STDIN_FILENO;
 
-const NEWLINE: u8 = 10;
-
 // How much of a line is kept: more than any path that is taken has. What a longer line has behind it is passed over.
 const KEPT: usize = 8192;
 
@@ -60,7 +58,7 @@ fn line_end(buf: &[u8], start: usize, have: usize) -> usize
     if start > have {
         return have;
     }
-    bytes::scan::find(buf, start, have, NEWLINE)
+    bytes::scan::find(buf, start, have, b'\n')
 }
 
 // A line, or its front if it is too long.

@@ -47,7 +47,7 @@ fn append_answers(out: &mut [u8], at: usize) -> usize {
     append(
         out,
         b,
-        b"What is wrong with the question itself is answer on standard error, and then no path is answered; the status is 2.\nA refused path is an answer: the status is 0.\n",
+        b"What is wrong with the question itself is said on standard error, and then no path is answered; the status is 2.\nA refused path is an answer: the status is 0.\n",
     )
 }
 

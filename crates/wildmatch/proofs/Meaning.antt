@@ -1,4 +1,4 @@
--- The test of specs/Test.antt is true exactly where the pattern matches as specs/Sharing.antt has it.
+-- The test of specs/MatchTest.antt is true exactly where the pattern matches as specs/Sharing.antt has it.
 use Prim.Native.Nat.{ℕ}
 use mathlib.Core.Path.{_≡_, refl, sym, ap, subst}
 use mathlib.Core.Logic.{⊎-elim, _↔_}

@@ -1,4 +1,4 @@
--- `bytestrings::same_bytes` meets its contract: the names differ in length, in a byte, or not at all.
+-- `bytestrings::same_bytes` meets its contract: the bytes differ in length, in a byte, or not at all.
 use Prim.Native.Nat.{_-_, _≤_}
 use native.Mathlib.Omega.{arith}
 use mathlib.Core.Path.{_≡_, refl, sym, _∙_}

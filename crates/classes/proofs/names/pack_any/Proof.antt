@@ -5,7 +5,7 @@ use native.Mathlib.Omega.{arith}
 use lib.ListN.{length, drop}
 use borrow.Author.Needs.{needs}
 use Rattle.classes.specs.inner.PackedNames.{packed}
-use Rattle.classes.proofs.PackLaws.{number-end, number-more, number-fits, number-long, number-whole}
+use Rattle.classes.proofs.PackLaws.{pack-end, pack-more, pack-fits, pack-long, pack-whole}
 use Rattle.classes.proofs.names.pack_any.Statement.{statement}
 use Rattle.classes.proofs.names.pack_any.Tie as tie
 
@@ -16,10 +16,10 @@ abbrev μ-loop : tie.MeasureT-loop
 μ-loop name i₀ number₀ i number = i
 
 returns : tie.Need-returns Inv-loop μ-loop
-returns c = number-long _ (c .if1 .taken)
+returns c = pack-long _ (c .if1 .taken)
 
 loop-holds : tie.Need-loop-holds Inv-loop μ-loop
-loop-holds c = (search needs, number-end (c .before .before .args .name .now))
+loop-holds c = (search needs, pack-end (c .before .before .args .name .now))
 
 sub-i : tie.Need-sub-i Inv-loop μ-loop
 sub-i c = search needs
@@ -30,7 +30,7 @@ mul-number c =
     let at-if1 = at-loop .before in
     let at-shared-slice-known = at-if1 .before in
     let at-start = at-shared-slice-known .before in
-    let h = number-fits (at-start .args .name .now) (at-loop .loop .i) _ (c .loop-test .taken) (at-loop .loop .inv .0) (at-loop .loop .inv .1)
+    let h = pack-fits (at-start .args .name .now) (at-loop .loop .i) _ (c .loop-test .taken) (at-loop .loop .inv .0) (at-loop .loop .inv .1)
     (λ i. at-shared-slice-known .shared-slice-known .given i .fits)
     (at-if1 .if1 .left) in
     omega arith
@@ -48,7 +48,7 @@ add-number c =
     let at-if1 = at-loop .before in
     let at-shared-slice-known = at-if1 .before in
     let at-start = at-shared-slice-known .before in
-    let h = number-fits (at-start .args .name .now) (at-loop .loop .i) _ (at-loop-test .loop-test .taken) (at-loop .loop .inv .0) (at-loop .loop .inv .1)
+    let h = pack-fits (at-start .args .name .now) (at-loop .loop .i) _ (at-loop-test .loop-test .taken) (at-loop .loop .inv .0) (at-loop .loop .inv .1)
     (λ i. at-shared-slice-known .shared-slice-known .given i .fits)
     (at-if1 .if1 .left) in
     omega arith
@@ -62,11 +62,11 @@ loop-again c =
     let at-loop = at-loop-test .before in (
       omega arith,
       ap (λ (n : ℕ). at-loop .loop .number * 256 + n) (c .wide .ensures .0)
-          ∙ number-more _ _ _ (at-loop-test .loop-test .taken) (at-loop .loop .inv .0) (at-loop .loop .inv .1),
+          ∙ pack-more _ _ _ (at-loop-test .loop-test .taken) (at-loop .loop .inv .0) (at-loop .loop .inv .1),
     )
 
 returns-2 : tie.Need-returns-2 Inv-loop μ-loop
-returns-2 c = number-whole _ _ _ (c .before .before .if1 .left) (c .loop-test .left) (c .before .loop .inv .1)
+returns-2 c = pack-whole _ _ _ (c .before .before .if1 .left) (c .loop-test .left) (c .before .loop .inv .1)
 
 pub pack-any-spec : {M : Type 1} → statement M
 pack-any-spec =

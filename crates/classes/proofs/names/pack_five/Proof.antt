@@ -1,5 +1,5 @@
 -- `classes::names::pack_five` meets its contract: each byte is below 256, so no sum wraps.
-use Rattle.classes.proofs.PackLaws.{number-five}
+use Rattle.classes.proofs.PackLaws.{pack-five}
 use native.Mathlib.Omega.{arith}
 use borrow.Author.Needs.{needs}
 use Rattle.classes.proofs.names.pack_five.Statement.{statement}
@@ -69,7 +69,7 @@ returns c =
     let at-wide2 = at-wide3 .before .before in
     let at-wide = at-wide2 .before .before in
     let at-start = at-wide .before .before .before in
-    cc (number-five (at-start .args .name .now) (at-start .pre))
+    cc (pack-five (at-start .args .name .now) (at-start .pre))
 
 pub pack-five-spec : {M : Type 1} → statement M
 pack-five-spec =
