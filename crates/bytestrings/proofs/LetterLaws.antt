@@ -1,10 +1,10 @@
--- Folding case leaves `/` alone.
+-- Folding case: a letter by its two forms; `/` is left alone.
 use mathlib.Core.Path.{_≡_, refl, sym, ap₂, subst, _∙_}
 use mathlib.Core.Bool.{Bool, true, false, cond, _&&_, _||_, false≢true, or-self}
 use Prim.Native.Nat.{ℕ}
 use native.Mathlib.Omega.{arith}
 use lib.Dec.{eqb, leb}
-use borrow.Author.Tests.{leb-true, eqb-true, ne-eqb}
+use borrow.Author.Tests.{leb-true, eqb-true, eq-eqb, ne-eqb}
 use Rattle.bytestrings.specs.Text.{char}
 use Rattle.bytestrings.specs.Letters.{lower, upper, folded}
 
@@ -38,3 +38,16 @@ folded-same fold c x y hx nx hy = ne-eqb y (char "/") (λ e. false≢true (sym n
   where
     other : folded fold (λ z. eqb z c) (char "/") ≡ true → folded fold (λ z. eqb z (char "/")) x ≡ true
     other h = subst (λ (k : ℕ). folded fold (λ z. eqb z k) x ≡ true) (slash-only fold c h) hx
+
+-- a literal, by the two forms of the byte
+pub same-folded : (fold : Bool) (c x l : ℕ) → fold ≡ true → l ≡ lower x → l ≡ c → eqb l c ≡ folded fold (λ y. eqb y c) x
+unfolding folded
+same-folded fold c x l f e q = rw (f, ← e, eq-eqb l c q)
+
+pub same-upper : (fold : Bool) (c x l u : ℕ) → fold ≡ true → l ≡ lower x → (l ≡ c → ⊥) → u ≡ upper x → eqb u c ≡ folded fold (λ y. eqb y c) x
+unfolding folded
+same-upper fold c x l u f e q h = rw (f, ← e, ← h, ne-eqb l c q)
+
+pub same-plain : (fold : Bool) (c x : ℕ) → fold ≡ false → eqb x c ≡ folded fold (λ y. eqb y c) x
+unfolding folded
+same-plain fold c x f = rw f

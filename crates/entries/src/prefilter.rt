@@ -4,8 +4,7 @@ ghost use mathlib.Core.Path.{_≡_};
 ghost use mathlib.Core.Bool.{true};
 ghost use Rattle.entries.specs.Entries.{against};
 ghost use Rattle.entries.specs.inner.Prefilter.{endAccepted, Excludes, ExcludesText};
-use bytestrings::letters::to_lower;
-use bytestrings::letters::to_upper;
+use bytestrings::letters::same_letter;
 
 // Whether the text ends in a byte that the literal c accepts.
 pub fn ends_in(c: u8, text: &[u8], fold: bool) -> bool
@@ -16,10 +15,7 @@ pub fn ends_in(c: u8, text: &[u8], fold: bool) -> bool
         return false;
     }
     let x = text[n - 1];
-    if fold {
-        return to_lower(x) == c || to_upper(x) == c;
-    }
-    x == c
+    same_letter(c, x, fold)
 }
 
 // Whether the pattern matches neither text, since it ends in a literal that accepts the last byte of neither. At its end any byte is a

@@ -10,7 +10,7 @@ use lib.Dec.{eqb}
 use lib.ListN.{length, getD}
 use borrow.Author.Tests.{eq-eqb, ne-eqb, eqb-false, not-true}
 use Rattle.bytestrings.specs.Text.{char}
-use Rattle.bytestrings.specs.Letters.{lower, upper, folded}
+use Rattle.bytestrings.specs.Letters.{folded}
 use Rattle.classes.specs.Members.{Class, readClass, classAccepts, tested}
 use Rattle.classes.specs.declared.class.Tested.{Tested}
 use Rattle.classes.specs.declared.class.Tested.the-variants.{Bad, Read}
@@ -84,19 +84,6 @@ module _ (m : Mode) (x : ℕ) where
       let a : s ≡ classAccepts (m .fold) (c .negated) (c .list) x = cc in
       let b : n ≡ c .size = cc in
       rw (← h, ← a, ← b, ← add-one n) w
-
--- a literal, by the two forms of the byte
-pub same-folded : (fold : Bool) (c x l : ℕ) → fold ≡ true → l ≡ lower x → l ≡ c → eqb l c ≡ folded fold (λ y. eqb y c) x
-unfolding folded
-same-folded fold c x l f e q = rw (f, ← e, eq-eqb l c q)
-
-pub same-upper : (fold : Bool) (c x l u : ℕ) → fold ≡ true → l ≡ lower x → (l ≡ c → ⊥) → u ≡ upper x → eqb u c ≡ folded fold (λ y. eqb y c) x
-unfolding folded
-same-upper fold c x l u f e q h = rw (f, ← e, ← h, ne-eqb l c q)
-
-pub same-plain : (fold : Bool) (c x : ℕ) → fold ≡ false → eqb x c ≡ folded fold (λ y. eqb y c) x
-unfolding folded
-same-plain fold c x f = rw f
 
 -- what a class is written with is within the pattern
 pub class-fits : (fold : Bool) (x : ℕ) (q : List ℕ) (t : Tested) (s : Bool) (n : ℕ) → t ≡ tested fold x (readClass q) → t ≡ Read s n → n ≤ length q

@@ -1,27 +1,14 @@
 // Items that take one byte.
 ghost use mathlib.Core.Path.{_≡_};
 ghost use mathlib.Core.Bool.{cond};
-ghost use lib.Dec.{eqb};
-ghost use Rattle.bytestrings.specs.Letters.{folded};
 ghost use Rattle.wildmatch.specs.Sharing.{inside};
 ghost use Rattle.classes.specs.Members.{readClass};
 ghost use Rattle.wildmatch.specs.Patterns.{readBracket};
 ghost use Rattle.wildmatch.specs.inner.Outcomes.{isLiteral, takenBy, taken};
 use crate::Mode;
-use bytestrings::letters::to_lower;
-use bytestrings::letters::to_upper;
+use bytestrings::letters::same_letter;
 use classes::class::Tested;
 use classes::class::test_class;
-
-// Whether the literal c accepts the byte x.
-pub fn same(c: u8, x: u8, fold: bool) -> bool
-    ensures { λ r. ⌜ r ≡ folded fold (λ y. eqb y c) x ⌝ }
-{
-    if fold {
-        return to_lower(x) == c || to_upper(x) == c;
-    }
-    x == c
-}
 
 // Whether x may be taken by what takes any byte, in path mode any but `/`.
 pub fn is_inside(x: u8, m: Mode) -> bool
@@ -65,7 +52,7 @@ pub fn other_takes(p: &[u8], x: u8, m: Mode) -> usize
         if p.len() < 2 {
             return 0;
         }
-        return sized(same(p[1], x, m.fold), 2);
+        return sized(same_letter(p[1], x, m.fold), 2);
     }
     if c == b'?' {
         return sized(is_inside(x, m), 1);
@@ -76,7 +63,7 @@ pub fn other_takes(p: &[u8], x: u8, m: Mode) -> usize
     if c == b'[' {
         return class_takes(&p[1..], x, m);
     }
-    sized(same(c, x, m.fold), 1)
+    sized(same_letter(c, x, m.fold), 1)
 }
 
 // Whether the byte stands for itself as an item.
@@ -105,7 +92,7 @@ pub fn item_takes(p: &[u8], x: u8, m: Mode) -> usize
     }
     let c = p[0];
     if is_literal(c) {
-        return sized(same(c, x, m.fold), 1);
+        return sized(same_letter(c, x, m.fold), 1);
     }
     other_takes(p, x, m)
 }

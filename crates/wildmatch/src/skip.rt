@@ -10,7 +10,7 @@ use crate::Mode;
 use crate::items::is_inside;
 use crate::items::is_literal;
 use crate::items::other_takes;
-use crate::items::same;
+use bytestrings::letters::same_letter;
 
 // The next place of t from k on that holds the literal c, or is outside, or is the end.
 fn skip_literal(c: u8, t: &[u8], k: usize, m: Mode) -> usize
@@ -20,7 +20,7 @@ fn skip_literal(c: u8, t: &[u8], k: usize, m: Mode) -> usize
     let mut j = k;
     while j < t.len() {
         let x = t[j];
-        if same(c, x, m.fold) {
+        if same_letter(c, x, m.fold) {
             return j;
         }
         if !is_inside(x, m) {

@@ -14,19 +14,19 @@ shared-slice-read-c c = search needs
 is-literal-requires : tie.Need-is-literal-requires
 is-literal-requires c κs = search needs
 
-same-requires : tie.Need-same-requires
-same-requires c κs = search needs
+same-letter-requires : tie.Need-same-letter-requires
+same-letter-requires c κs = search needs
 
 sized-requires : tie.Need-sized-requires
 sized-requires c κs = search needs
 
 returns-2 : tie.Need-returns-2
 returns-2 c =
-    let at-same = c .before in
-    let at-if2 = at-same .before in
+    let at-same-letter = c .before in
+    let at-if2 = at-same-letter .before in
     let at-is-literal = at-if2 .before in
     let at-if1 = at-is-literal .before .before in
-    taken-plain _ _ _ _ _ (at-if1 .if1 .left) (sym (at-is-literal .is-literal .ensures) ∙ at-if2 .if2 .taken) (at-same .same .ensures) (c .sized .ensures)
+    taken-plain _ _ _ _ _ (at-if1 .if1 .left) (sym (at-is-literal .is-literal .ensures) ∙ at-if2 .if2 .taken) (at-same-letter .same-letter .ensures) (c .sized .ensures)
 
 other-takes-requires : tie.Need-other-takes-requires
 other-takes-requires c κs = search needs
@@ -41,7 +41,7 @@ item-takes-spec =
     returns
     shared-slice-read-c
     is-literal-requires
-    same-requires
+    same-letter-requires
     sized-requires
     returns-2
     other-takes-requires

@@ -13,21 +13,21 @@ shared-slice-read-c c = search needs
 returns-2 : tie.Need-returns-2
 returns-2 c = taken-broken _ _ _ (c .before .if2 .taken) (c .if3 .taken)
 
-shared-slice-read-same : tie.Need-shared-slice-read-same
-shared-slice-read-same c = search needs
+shared-slice-read-same-letter : tie.Need-shared-slice-read-same-letter
+shared-slice-read-same-letter c = search needs
 
-same-requires : tie.Need-same-requires
-same-requires c κs = search needs
+same-letter-requires : tie.Need-same-letter-requires
+same-letter-requires c κs = search needs
 
 sized-requires : tie.Need-sized-requires
 sized-requires c κs = search needs
 
 returns-3 : tie.Need-returns-3
 returns-3 c =
-    let at-same = c .before in
-    let at-if3 = at-same .before .before in
+    let at-same-letter = c .before in
+    let at-if3 = at-same-letter .before .before in
     let at-if2 = at-if3 .before in
-    taken-escaped _ _ _ _ _ (at-if2 .if2 .taken) (at-if3 .if3 .left) (at-same .same .ensures) (c .sized .ensures)
+    taken-escaped _ _ _ _ _ (at-if2 .if2 .taken) (at-if3 .if3 .left) (at-same-letter .same-letter .ensures) (c .sized .ensures)
 
 is-inside-requires : tie.Need-is-inside-requires
 is-inside-requires c κs = search needs
@@ -71,21 +71,21 @@ returns-6 c =
     let at-if1 = at-if2 .before .before in
     taken-class _ _ _ _ (at-if1 .if1 .left) (at-if2 .if2 .left) (at-if4 .if4 .left) (at-if5 .if5 .left) (at-if6 .if6 .taken) (c .class-takes .ensures)
 
-same-requires-2 : tie.Need-same-requires-2
-same-requires-2 c κs = search needs
+same-letter-requires-2 : tie.Need-same-letter-requires-2
+same-letter-requires-2 c κs = search needs
 
 sized-requires-3 : tie.Need-sized-requires-3
 sized-requires-3 c κs = search needs
 
 returns-7 : tie.Need-returns-7
 returns-7 c =
-    let at-same2 = c .before in
-    let at-if6 = at-same2 .before in
+    let at-same-letter2 = c .before in
+    let at-if6 = at-same-letter2 .before in
     let at-if5 = at-if6 .before in
     let at-if4 = at-if5 .before in
     let at-if2 = at-if4 .before in
     let at-if1 = at-if2 .before .before in
-    taken-literal _ _ _ _ _ (at-if1 .if1 .left) (at-if2 .if2 .left) (at-if4 .if4 .left) (at-if5 .if5 .left) (at-if6 .if6 .left) (at-same2 .same2 .ensures) (c .sized3 .ensures)
+    taken-literal _ _ _ _ _ (at-if1 .if1 .left) (at-if2 .if2 .left) (at-if4 .if4 .left) (at-if5 .if5 .left) (at-if6 .if6 .left) (at-same-letter2 .same-letter2 .ensures) (c .sized3 .ensures)
 
 pub other-takes-spec : {M : Type 1} → statement M
 other-takes-spec =
@@ -94,8 +94,8 @@ other-takes-spec =
     returns
     shared-slice-read-c
     returns-2
-    shared-slice-read-same
-    same-requires
+    shared-slice-read-same-letter
+    same-letter-requires
     sized-requires
     returns-3
     is-inside-requires
@@ -107,6 +107,6 @@ other-takes-spec =
     part-class-takes-end
     class-takes-requires
     returns-6
-    same-requires-2
+    same-letter-requires-2
     sized-requires-3
     returns-7)

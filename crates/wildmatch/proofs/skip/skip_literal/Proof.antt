@@ -25,8 +25,8 @@ loop-holds c = passed-begin _ _ _ _ (c .before .pre)
 shared-slice-read-x : tie.Need-shared-slice-read-x Inv-loop μ-loop
 shared-slice-read-x c = omega arith
 
-same-requires : tie.Need-same-requires Inv-loop μ-loop
-same-requires c κs = search needs
+same-letter-requires : tie.Need-same-letter-requires Inv-loop μ-loop
+same-letter-requires c κs = search needs
 
 returns : tie.Need-returns Inv-loop μ-loop
 returns c =
@@ -39,8 +39,8 @@ is-inside-requires c κs = search needs
 
 returns-2 : tie.Need-returns-2 Inv-loop μ-loop
 returns-2 c =
-    let at-same = c .before .before .before in
-    let at-loop = at-same .before .before .before in
+    let at-same-letter = c .before .before .before in
+    let at-loop = at-same-letter .before .before .before in
     at-loop .loop .inv
 
 add-j : tie.Need-add-j Inv-loop μ-loop
@@ -53,10 +53,10 @@ loop-again : tie.Need-loop-again Inv-loop μ-loop
 loop-again c =
     let at-is-inside = c .before in
     let at-if1 = at-is-inside .before in
-    let at-same = at-if1 .before in
-    let at-loop-test = at-same .before .before in
+    let at-same-letter = at-if1 .before in
+    let at-loop-test = at-same-letter .before .before in
     let at-loop = at-loop-test .before in
-    passed-next _ _ _ _ _ (at-loop .loop .inv) (at-loop-test .loop-test .taken) (sym (at-is-inside .is-inside .ensures) ∙ not-false _ (c .if2 .left)) (sym (at-same .same .ensures) ∙ at-if1 .if1 .left)
+    passed-next _ _ _ _ _ (at-loop .loop .inv) (at-loop-test .loop-test .taken) (sym (at-is-inside .is-inside .ensures) ∙ not-false _ (c .if2 .left)) (sym (at-same-letter .same-letter .ensures) ∙ at-if1 .if1 .left)
 
 returns-3 : tie.Need-returns-3 Inv-loop μ-loop
 returns-3 c = c .before .loop .inv
@@ -69,7 +69,7 @@ skip-literal-spec =
     μ-loop
     loop-holds
     shared-slice-read-x
-    same-requires
+    same-letter-requires
     returns
     is-inside-requires
     returns-2

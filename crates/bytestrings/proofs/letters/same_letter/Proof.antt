@@ -1,8 +1,8 @@
--- `wildmatch::items::same` meets its contract: folding asks with the lower, then the upper form.
-use Rattle.wildmatch.proofs.ItemLaws.{same-folded, same-upper, same-plain}
+-- `bytestrings::letters::same_letter` meets its contract: folding asks with the lower, then the upper form.
+use Rattle.bytestrings.proofs.LetterLaws.{same-folded, same-upper, same-plain}
 use borrow.Author.Needs.{needs}
-use Rattle.wildmatch.proofs.items.same.Statement.{statement}
-use Rattle.wildmatch.proofs.items.same.Tie as tie
+use Rattle.bytestrings.proofs.letters.same_letter.Statement.{statement}
+use Rattle.bytestrings.proofs.letters.same_letter.Tie as tie
 
 to-lower-requires : tie.Need-to-lower-requires
 to-lower-requires c κs = search needs
@@ -23,5 +23,5 @@ returns-2 c =
 returns-3 : tie.Need-returns-3
 returns-3 c = same-plain _ _ _ (c .if1 .left)
 
-pub same-spec : {M : Type 1} → statement M
-same-spec = tie.close (tie.spec to-lower-requires to-upper-requires returns returns-2 returns-3)
+pub same-letter-spec : {M : Type 1} → statement M
+same-letter-spec = tie.close (tie.spec to-lower-requires to-upper-requires returns returns-2 returns-3)
