@@ -56,7 +56,8 @@ loop-again c =
     let at-same-letter = at-if1 .before in
     let at-loop-test = at-same-letter .before .before in
     let at-loop = at-loop-test .before in
-    passed-next _ _ _ _ _ (at-loop .loop .inv) (at-loop-test .loop-test .taken) (sym (at-is-inside .is-inside .ensures) ∙ not-false _ (c .if2 .left)) (sym (at-same-letter .same-letter .ensures) ∙ at-if1 .if1 .left)
+    passed-next _ _ _ _ _ (at-loop .loop .inv) (at-loop-test .loop-test .taken) (sym (at-is-inside .is-inside .ensures) ∙ not-false _ (c .if2 .left)) (sym (at-same-letter .same-letter .ensures)
+    ∙ at-if1 .if1 .left)
 
 returns-3 : tie.Need-returns-3 Inv-loop μ-loop
 returns-3 c = c .before .loop .inv
