@@ -1,5 +1,7 @@
 // What the two questions answer: the complete answer of each, as a type, and the number that C gets for it. Whoever answers a question, of lent files or
 // otherwise, answers in these. For a user: docs/RULES.md, "Answers".
+#![tactic(auto)]
+
 ghost use Rattle.std.specs.Prelude.{◌≡◌};
 ghost use Rattle.answers.specs.Complete.{state_number, complete_ignore, complete_attribute};
 

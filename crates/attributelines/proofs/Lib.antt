@@ -2,4 +2,3 @@
 pub mod TokenLaws
 pub mod MentionLaws
 pub mod LineLaws
-pub mod ValueLaws

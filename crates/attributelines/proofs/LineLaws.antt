@@ -1,19 +1,17 @@
 -- The effect of a line's mentions, read one after another; and the line as a whole.
-use Prim.Native.Nat.{ℕ, ◌+◌, ◌-◌, ◌<◌, ◌≤◌}
-use native.Mathlib.Omega.{arith}
+use Prim.Native.Nat.{ℕ, ◌+◌, ◌<◌}
 use mathlib.Core.Path.{◌≡◌, refl, sym, ap, ◌∙◌}
-use mathlib.Core.Bool.{Bool, true, false, not, cond}
+use mathlib.Core.Bool.{Bool, true, false, cond}
 use mathlib.Core.List.{List, [], ◌∷◌}
 use mathlib.Core.Option.{Option, none, some}
 use lib.ListN.{length, take, drop}
-use Rattle.bytestrings.proofs.SliceLaws.{from, from-drop}
-use Rattle.bytestrings.proofs.UntilLaws.{until_within}
 use Rattle.rulefiles.specs.Decisions.{override}
 use Rattle.rulefiles.proofs.DecisionLaws.{override_assoc, override_none}
+use Rattle.rulefiles.proofs.PartLaws.{upto_part}
 use Rattle.attributenames.specs.Names.{good_name}
 use Rattle.entries.specs.Entries.{pattern_matches, Subject}
 use Rattle.bytestrings.specs.Bytes.{same_bytes}
-use Rattle.attributelines.specs.AttributeLines.{is_blank, Token, Mention, mention, state_for, good_names, last_mention, tokens, pattern_dropped, rule_state, line_state}
+use Rattle.attributelines.specs.AttributeLines.{Token, Mention, mention, state_for, good_names, last_mention, tokens, pattern_dropped, rule_state, line_state}
 use Rattle.attributelines.specs.inner.Scan.{blank_length, token_length, mentions_state}
 use Rattle.attributelines.specs.declared.State.{State}
 use Rattle.attributelines.proofs.TokenLaws.{tokens_next}
@@ -31,48 +29,58 @@ module _ (attribute : List ℕ) where
   unfolding pending
   pending_end before = refl
 
-  -- one turn: the next mention, by the tests of its name
-  module _ (before : Option State) (w : Token) (ws : List Token) (name : List ℕ) (n : name ≡ (mention w.start w.bytes).name) (good : Bool) (g : good ≡ good_name name) where
+  module _ (before : Option State) (w : Token) (ws : List Token) where
     abbrev named : Mention
     named = mention w.start w.bytes
 
-    pub turn_bad : good ≡ false → pending attribute before (w ∷ ws) ≡ none
+    pub pending_bad : good_name named.name ≡ false → pending attribute before (w ∷ ws) ≡ none
     unfolding pending
-    turn_bad b = rw (sym n, sym g, b)
+    pending_bad e = rw e
 
-    module _ (b : good ≡ true) (alike : Bool) (a : alike ≡ same_bytes name attribute) where
-      pub turn_named : alike ≡ true → (state : State) → state ≡ named.state → pending attribute before (w ∷ ws) ≡ pending attribute (some state) ws
-      unfolding pending state_for
-      turn_named e state q = rw (sym n, sym g, b, sym a, e, q) (ap (λ (o : Option State). cond (good_names ws) o none) (sym (override_assoc before (some named.state) (last_mention attribute ws))))
+    pub pending-named : good_name named.name ≡ true → same_bytes named.name attribute ≡ true → pending attribute before (w ∷ ws) ≡ pending attribute (some named.state) ws
+    unfolding pending state_for
+    pending-named g e = rw (g, e) (ap (λ (o : Option State). cond (good_names ws) o none) (sym (override_assoc before (some named.state) (last_mention attribute ws))))
 
-      pub turn_other : alike ≡ false → pending attribute before (w ∷ ws) ≡ pending attribute before ws
-      unfolding pending state_for
-      turn_other e = rw (sym n, sym g, b, sym a, e) (ap (λ (o : Option State). cond (good_names ws) o none) (sym (override_assoc before none (last_mention attribute ws))))
+    pub pending_other : good_name named.name ≡ true → same_bytes named.name attribute ≡ false → pending attribute before (w ∷ ws) ≡ pending attribute before ws
+    unfolding pending state_for
+    pending_other g e = rw (g, e) (ap (λ (o : Option State). cond (good_names ws) o none) (sym (override_assoc before none (last_mention attribute ws))))
 
--- the pattern is the first token of what stands after the blanks
-module _ (s : List ℕ) (start : ℕ) (e : start ≡ 0 + blank_length (drop 0 s)) where
-  pub blanks_within : start ≤ length s
-  blanks_within = (until_within (λ b. not (is_blank b)) s 0 start (omega arith) e).1
+-- one turn, at the token from `start` to `end`
+module _ (attribute s : List ℕ) (i start end : ℕ) (before : Option State) (name : List ℕ) (good alike : Bool)
+    (e : start ≡ i + blank_length (drop i s)) (h : start < length s) (w : end ≡ start + token_length (drop start s))
+    (n : name ≡ (mention start (drop start (take end s))).name) (g : good ≡ good_name name) where
+  unfoldable token : Token
+  token = record { start = start; bytes = drop start (take end s) }
 
-  module _ (n : ℕ) (w : n ≡ 0 + token_length (drop 0 (from start s))) where
-    pub pattern_within : n ≤ length (from start s)
-    pattern_within = (until_within is_blank (from start s) 0 n (omega arith) w).1
+  cut : tokens i (drop i s) ≡ token ∷ tokens end (drop end s)
+  unfolding token
+  cut = tokens_next s i start end e h w ∙ ap (λ (b : List ℕ). record { start = start; bytes = b } ∷ tokens end (drop end s)) (upto_part start end s)
 
-    pub pattern_first : (start ≡ length s → ⊥) → tokens 0 s ≡ record { start = start; bytes = take n (from start s) } ∷ tokens (start + n) (drop (start + n) s)
-    pattern_first h =
-        let l : start < length s = omega (arith, h, blanks_within) in
-        let q : token_length (drop 0 (from start s)) ≡ token_length (drop start s) = ap token_length (from-drop start s) in
-        let m : start + n - start ≡ n = omega arith in
-        tokens_next s 0 start (start + n) e l (omega (arith, w, q))
-        ∙ rw (m, from-drop start s)
+  pub turn_bad : good ≡ false → pending attribute before (tokens i (drop i s)) ≡ none
+  unfolding token
+  turn_bad b = ap (pending attribute before) cut ∙ pending_bad attribute before token (tokens end (drop end s)) (ap good_name (sym n) ∙ sym g ∙ b)
+
+  pub turn_named : (state : State) → good ≡ true → alike ≡ same_bytes name attribute → alike ≡ true → state ≡ (mention start (drop start (take end s))).state
+      → pending attribute before (tokens i (drop i s)) ≡ pending attribute (some state) (tokens end (drop end s))
+  unfolding token
+  turn_named state b a t q =
+      ap (pending attribute before) cut
+      ∙ pending-named attribute before token (tokens end (drop end s)) (ap good_name (sym n) ∙ sym g ∙ b) (ap (λ (x : List ℕ). same_bytes x attribute) (sym n) ∙ sym a ∙ t)
+      ∙ ap (λ (x : State). pending attribute (some x) (tokens end (drop end s))) (sym q)
+
+  pub turn_other : good ≡ true → alike ≡ same_bytes name attribute → alike ≡ false → pending attribute before (tokens i (drop i s)) ≡ pending attribute before (tokens end (drop end s))
+  unfolding token
+  turn_other b a t =
+      ap (pending attribute before) cut
+      ∙ pending_other attribute before token (tokens end (drop end s)) (ap good_name (sym n) ∙ sym g ∙ b) (ap (λ (x : List ℕ). same_bytes x attribute) (sym n) ∙ sym a ∙ t)
 
 -- the whole line: no tokens, a dropped pattern, one that does not match, one that does
-module _ (subject : Subject) (attribute bytes : List ℕ) where
-  pub line_empty : tokens 0 bytes ≡ [] → none ≡ line_state subject attribute bytes
+module _ (subject : Subject) (attribute : List ℕ) (at : ℕ) (bytes : List ℕ) where
+  pub line_empty : tokens at bytes ≡ [] → none ≡ line_state subject attribute at bytes
   unfolding line_state
   line_empty e = rw e
 
-  pub line_dropped : (p : Token) (ws : List Token) → tokens 0 bytes ≡ p ∷ ws → pattern_dropped p.bytes ≡ true → none ≡ line_state subject attribute bytes
+  pub line_dropped : (p : Token) (ws : List Token) → tokens at bytes ≡ p ∷ ws → pattern_dropped p.bytes ≡ true → none ≡ line_state subject attribute at bytes
   unfolding line_state rule_state
   line_dropped p ws e d = rw (e, d)
 
@@ -80,12 +88,12 @@ module _ (subject : Subject) (attribute bytes : List ℕ) where
   either_none true = refl
   either_none false = refl
 
-  pub line_other : (p : Token) (ws : List Token) → tokens 0 bytes ≡ p ∷ ws → pattern_dropped p.bytes ≡ false → pattern_matches subject p.bytes ≡ false
-      → none ≡ line_state subject attribute bytes
+  pub line_other : (p : Token) (ws : List Token) → tokens at bytes ≡ p ∷ ws → pattern_dropped p.bytes ≡ false → pattern_matches subject p.bytes ≡ false
+      → none ≡ line_state subject attribute at bytes
   unfolding line_state rule_state
   line_other p ws e d m = rw (e, d, m) (either_none (good_names ws))
 
-  pub line-matched : (p : Token) (ws : List Token) (o : Option State) → tokens 0 bytes ≡ p ∷ ws → pattern_dropped p.bytes ≡ false → pattern_matches subject p.bytes ≡ true
-      → o ≡ mentions_state attribute ws → o ≡ line_state subject attribute bytes
+  pub line-matched : (p : Token) (ws : List Token) (o : Option State) → tokens at bytes ≡ p ∷ ws → pattern_dropped p.bytes ≡ false → pattern_matches subject p.bytes ≡ true
+      → o ≡ mentions_state attribute ws → o ≡ line_state subject attribute at bytes
   unfolding line_state rule_state mentions_state
   line-matched p ws o e d m q = rw (e, d, m) q

@@ -5,11 +5,12 @@ use mathlib.Core.Path.{◌≡◌, refl, sym, ap, subst, ◌∙◌}
 use mathlib.Core.Bool.{Bool, true, false, cond, ◌&&◌, ◌||◌, and-true, and-false}
 use mathlib.Core.List.{List, [], ◌∷◌}
 use lib.Dec.{eqb}
-use lib.ListN.{length, take, drop, get_or}
-use Rattle.bytestrings.proofs.SliceLaws.{from, from-drop}
+use lib.ListN.{length, take, drop, get_or, length-drop, drop_of_length-le}
+use Rattle.bytestrings.proofs.SliceLaws.{next}
 use borrow.Author.Tests.{eq-eqb, ne_eqb, lt-ltb, le-ltb}
 use Rattle.bytestrings.specs.Text.{char, text}
-use Rattle.bytestrings.specs.Bytes.{same_bytes, has}
+use Rattle.bytestrings.specs.Bytes.{same_bytes}
+use Rattle.bytestrings.specs.Bytes.{has}
 use Rattle.attributelines.specs.AttributeLines.{name_length, name_in, Mention, plain_mention, mention, definition, pattern_dropped}
 use Rattle.bytestrings.specs.Bytes.{begins_with}
 use Rattle.attributelines.specs.declared.State.TheVariants.{Set, Unset, Value, Unspecified}
@@ -63,60 +64,61 @@ module _ (p : List ℕ) (n : length p ≡ 0 → ⊥) where
       dropped_definition e r q =
           subst (λ (b : Bool). b ≡ pattern_dropped p) (rw (ne_eqb (get_or p 0 0) (char "#") h, ne_eqb (get_or p 0 0) (char "!") k, ne_eqb (get_or p 0 0) (char "\"") e) (sym q)) (by_first p n)
 
--- whether a `=` stands in a mention, by where its name ends
-has_none : (w : List ℕ) → length w ≤ name_length w → has (char "=") w ≡ false
-has_none [] h = refl
-has_none (x ∷ w) h = go (eqb x (char "=")) h (has_none w)
-  where
-    go : (b : Bool) → suc (length w) ≤ cond b 0 (suc (name_length w)) → (length w ≤ name_length w → has (char "=") w ≡ false) → (b || has (char "=") w) ≡ false
-    go true q ih = absurd (omega arith)
-    go false q ih = ih (omega arith)
-
-has_some : (w : List ℕ) → name_length w < length w → has (char "=") w ≡ true
-has_some [] h = absurd (omega arith)
-has_some (x ∷ w) h = go (eqb x (char "=")) h (has_some w)
-  where
-    go : (b : Bool) → cond b 0 (suc (name_length w)) < suc (length w) → (name_length w < length w → has (char "=") w ≡ true) → (b || has (char "=") w) ≡ true
-    go true q ih = refl
-    go false q ih = ih (omega arith)
-
 -- a mention, by its first byte
-module _ (at : ℕ) where
-  by_sign : (w : List ℕ)
-      → cond (eqb (get_or w 0 0) (char "-")) (record { name = name_in (drop 1 w); state = Unset })
-      (cond (eqb (get_or w 0 0) (char "!")) (record { name = name_in (drop 1 w); state = Unspecified }) (plain_mention at w))
-      ≡ mention at w
+module _ (s : List ℕ) (at : ℕ) where
+  pub mention_past : length s ≤ at → mention at (drop at s) ≡ record { name = []; state = Set }
+  unfolding mention plain_mention name_in
+  mention_past h = rw (drop_of_length-le s {i = at} h)
+
+  pub mention_minus : at < length s → get_or s at 0 ≡ char "-" → mention at (drop at s) ≡ record { name = name_in (drop (at + 1) s); state = Unset }
   unfolding mention
-  by_sign [] = refl
-  by_sign (x ∷ w) = refl
+  mention_minus h e = rw (next s at h, eq-eqb (get_or s at 0) (char "-") e)
 
-  pub mention_empty : (w : List ℕ) → length w ≡ 0 → record { name = name_in w; state = Set } ≡ mention at w
-  unfolding mention plain_mention
-  mention_empty [] e = refl
-  mention_empty (x ∷ w) e = absurd (omega arith)
+  pub mention_not : at < length s → (get_or s at 0 ≡ char "-" → ⊥) → get_or s at 0 ≡ char "!" → mention at (drop at s) ≡ record { name = name_in (drop (at + 1) s); state = Unspecified }
+  unfolding mention
+  mention_not h n e = rw (next s at h, ne_eqb (get_or s at 0) (char "-") n, eq-eqb (get_or s at 0) (char "!") e)
 
-  module _ (w : List ℕ) where
-    pub mention_minus : get_or w 0 0 ≡ char "-" → record { name = name_in (from 1 w); state = Unset } ≡ mention at w
-    mention_minus e = subst (λ (m : Mention). m ≡ mention at w) (rw (from-drop 1 w, eq-eqb (get_or w 0 0) (char "-") e)) (by_sign w)
+  plain : at < length s → (get_or s at 0 ≡ char "-" → ⊥) → (get_or s at 0 ≡ char "!" → ⊥) → mention at (drop at s) ≡ plain_mention at (drop at s)
+  unfolding mention
+  plain h n m = rw (next s at h, ne_eqb (get_or s at 0) (char "-") n, ne_eqb (get_or s at 0) (char "!") m)
 
-    module _ (h : get_or w 0 0 ≡ char "-" → ⊥) where
-      pub mention_not : get_or w 0 0 ≡ char "!" → record { name = name_in (from 1 w); state = Unspecified } ≡ mention at w
-      mention_not e = subst (λ (m : Mention). m ≡ mention at w) (rw (from-drop 1 w, ne_eqb (get_or w 0 0) (char "-") h, eq-eqb (get_or w 0 0) (char "!") e)) (by_sign w)
+  pub mention-plain : at < length s → (get_or s at 0 ≡ char "-" → ⊥) → (get_or s at 0 ≡ char "!" → ⊥) → (mention at (drop at s)).name ≡ name_in (drop at s)
+  unfolding plain_mention
+  mention-plain h n m = ap (λ (x : Mention). x.name) (plain h n m)
 
-      module _ (k : get_or w 0 0 ≡ char "!" → ⊥) where
-        plain : plain_mention at w ≡ mention at w
-        plain = subst (λ (m : Mention). m ≡ mention at w) (rw (ne_eqb (get_or w 0 0) (char "-") h, ne_eqb (get_or w 0 0) (char "!") k)) (by_sign w)
+  -- the name's bytes, by where they end
+  pub name-bytes : (end : ℕ) → end ≡ at + name_length (drop at s) → take (end - at) (drop at s) ≡ name_in (drop at s)
+  unfolding name_in
+  name-bytes end e = let m : end - at ≡ name_length (drop at s) = omega arith in ap (λ (n : ℕ). take n (drop at s)) m
 
-        pub name-plain : name_in w ≡ (mention at w).name
-        unfolding plain_mention
-        name-plain = ap (λ (m : Mention). m.name) plain
+  has_none : (l : List ℕ) → length l ≤ name_length l → has (char "=") l ≡ false
+  has_none [] h = refl
+  has_none (x ∷ l) h = go (eqb x (char "=")) h (has_none l)
+    where
+      go : (b : Bool) → suc (length l) ≤ cond b 0 (suc (name_length l)) → (length l ≤ name_length l → has (char "=") l ≡ false) → (b || has (char "=") l) ≡ false
+      go true q ih = absurd (omega arith)
+      go false q ih = ih (omega arith)
 
-        -- no `=`: set
-        pub state-set : (n : ℕ) → n ≡ name_length w → n ≡ length w → Set ≡ (mention at w).state
-        unfolding plain_mention
-        state-set n e q = rw (sym plain, has_none w (omega arith))
+  has_some : (l : List ℕ) → name_length l < length l → has (char "=") l ≡ true
+  has_some [] h = absurd (omega arith)
+  has_some (x ∷ l) h = go (eqb x (char "=")) h (has_some l)
+    where
+      go : (b : Bool) → cond b 0 (suc (name_length l)) < suc (length l) → (name_length l < length l → has (char "=") l ≡ true) → (b || has (char "=") l) ≡ true
+      go true q ih = refl
+      go false q ih = ih (omega arith)
 
-        -- a `=`: the value after it
-        pub state_value : (n : ℕ) → n ≡ name_length w → n < length w → Value (record { start = at + n + 1; length = length w - (n + 1) }) ≡ (mention at w).state
-        unfolding plain_mention
-        state_value n e q = rw (sym plain, has_some w (omega arith), e)
+  -- no `=`: set
+  pub state-set : (end : ℕ) → at < length s → (get_or s at 0 ≡ char "-" → ⊥) → (get_or s at 0 ≡ char "!" → ⊥) → end ≡ at + name_length (drop at s) → end ≡ length s → Set ≡ (mention at (drop at s)).state
+  unfolding plain_mention
+  state-set end h n m e q =
+      let l : length (drop at s) ≡ length s - at = length-drop at s in
+      sym (ap (λ (x : Mention). x.state) (plain h n m) ∙ rw (has_none (drop at s) (omega arith)))
+
+  -- a `=`: the value after it
+  pub state_value : (end : ℕ) → at < length s → (get_or s at 0 ≡ char "-" → ⊥) → (get_or s at 0 ≡ char "!" → ⊥) → end ≡ at + name_length (drop at s) → end < length s
+      → Value (record { start = end + 1; length = length s - (end + 1) }) ≡ (mention at (drop at s)).state
+  unfolding plain_mention
+  state_value end h n m e q =
+      let l : length (drop at s) ≡ length s - at = length-drop at s in
+      let k : length (drop at s) - (name_length (drop at s) + 1) ≡ length s - (end + 1) = omega arith in
+      sym (ap (λ (x : Mention). x.state) (plain h n m) ∙ rw (has_some (drop at s) (omega arith), k, sym e))

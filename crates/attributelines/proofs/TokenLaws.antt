@@ -10,7 +10,6 @@ use mathlib.Core.List.{List, [], ◌∷◌}
 use lib.ListN.{length, take, drop, length-drop, drop_of_length-le}
 use lib.Seq.{drop-drop}
 use borrow.Author.Tests.{not-true}
-use Rattle.bytestrings.proofs.UntilLaws.{until_within}
 use Rattle.attributelines.specs.AttributeLines.{is_blank, starts_token, Token, widened, tokens}
 use Rattle.attributelines.specs.inner.Scan.{blank_length, token_length}
 
@@ -70,29 +69,23 @@ tokens_none at = refl
 left : (s : List ℕ) (i : ℕ) → i < length s → drop i s ≡ [] → ⊥
 left s i h q = let e : length (drop i s) ≡ 0 = ap length q in omega (arith, length-drop i s)
 
--- what stands after the blanks
-after_blanks : (s : List ℕ) (i start : ℕ) → start ≡ i + blank_length (drop i s) → drop (blank_length (drop i s)) (drop i s) ≡ drop start s
-after_blanks s i start e = drop-drop (blank_length (drop i s)) i s ∙ ap (λ (n : ℕ). drop n s) (sym e)
-
 -- no token more
 pub tokens_end : (s : List ℕ) (i start : ℕ) → start ≡ i + blank_length (drop i s) → length s ≤ start → tokens i (drop i s) ≡ []
 tokens_end s i start e h =
     tokens_blanks i (drop i s)
-    ∙ ap (tokens (i + blank_length (drop i s))) (after_blanks s i start e ∙ drop_of_length-le s {i = start} h)
+    ∙ ap (tokens (i + blank_length (drop i s))) (drop-drop (blank_length (drop i s)) i s ∙ ap (λ (n : ℕ). drop n s) (sym e) ∙ drop_of_length-le s {i = start} h)
     ∙ tokens_none (i + blank_length (drop i s))
-
--- before the end, a token starts there
-starts : (s : List ℕ) (i start : ℕ) → start ≡ i + blank_length (drop i s) → start < length s → starts_token (drop start s) ≡ true
-starts s i start e h =
-    let f = after_blanks s i start e in
-    ⊎_elim (λ q. absurd (left s start h (sym f ∙ q))) (λ q. ap starts_token (sym f) ∙ q) (blanks_after (drop i s))
 
 -- the next token, and the tokens after it
 pub tokens_next : (s : List ℕ) (i start end : ℕ) → start ≡ i + blank_length (drop i s) → start < length s → end ≡ start + token_length (drop start s)
     → tokens i (drop i s) ≡ record { start = start; bytes = take (end - start) (drop start s) } ∷ tokens end (drop end s)
 tokens_next s i start end e h w =
+    let d : List ℕ = drop i s in
+    let k : ℕ = blank_length d in
+    let f : drop k d ≡ drop start s = drop-drop k i s ∙ ap (λ (n : ℕ). drop n s) (sym e) in
+    let o : starts_token (drop start s) ≡ true = ⊎_elim (λ q. absurd (left s start h (sym f ∙ q))) (λ q. ap starts_token (sym f) ∙ q) (blanks_after d) in
     let m : end - start ≡ token_length (drop start s) = omega arith in
-    tokens_blanks i (drop i s) ∙ rw (after_blanks s i start e, sym e) (opened start (drop start s) (starts s i start e h) ∙ rw (m, drop-drop (token_length (drop start s)) start s, sym w))
+    tokens_blanks i d ∙ rw (f, sym e) (opened start (drop start s) o ∙ rw (m, drop-drop (token_length (drop start s)) start s, sym w))
 
 -- a token has a byte
 long : (d : List ℕ) → starts_token d ≡ true → 0 < token_length d
@@ -103,11 +96,10 @@ long (b ∷ s) e = go (is_blank b) e
     go true h = absurd (false≢true h)
     go false h = omega arith
 
--- the next token lies within the line, from the place reached on
-pub token_within : (s : List ℕ) (i start end : ℕ) → i < length s → start ≡ i + blank_length (drop i s) → (start ≡ length s → ⊥) → end ≡ start + token_length (drop start s)
-    → (i ≤ start) × (start < end) × (end ≤ length s)
-token_within s i start end h e n w =
-    let b = until_within (λ c. not (is_blank c)) s i start (omega (arith, h)) e in
-    let l : start < length s = omega (arith, n, b.1) in
-    let o : 0 < token_length (drop start s) = long (drop start s) (starts s i start e l) in
-    (b.0, omega (arith, o, w), (until_within is_blank s start end (omega (arith, l)) w).1)
+pub token_long : (s : List ℕ) (i start end : ℕ) → start ≡ i + blank_length (drop i s) → start < length s → end ≡ start + token_length (drop start s) → start < end
+token_long s i start end e h w =
+    let k : ℕ = blank_length (drop i s) in
+    let f : drop k (drop i s) ≡ drop start s = drop-drop k i s ∙ ap (λ (n : ℕ). drop n s) (sym e) in
+    let o : starts_token (drop start s) ≡ true = ⊎_elim (λ q. absurd (left s start h (sym f ∙ q))) (λ q. ap starts_token (sym f) ∙ q) (blanks_after (drop i s)) in
+    let l : 0 < token_length (drop start s) = long (drop start s) o in
+    omega arith

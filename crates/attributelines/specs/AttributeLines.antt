@@ -1,12 +1,13 @@
 -- Document 01, "Attribute lines": the effect of one line on one attribute of one entry.
 use Rattle.std.specs.Prelude.{ℕ, suc, ◌+◌, ◌-◌, Bool, true, false, not, cond, ◌||◌, ◌&&◌, List, [], ◌∷◌, eqb, ltb, length, take, drop}
-use Rattle.std.proofs.Math.Option.{Option, none, some, map}
+use Rattle.std.proofs.Math.Option.{Option, none, some}
 use Rattle.bytestrings.specs.Text.{char, text, tab, carriage_return}
 use Rattle.rulefiles.specs.RuleFiles.{Line}
 use Rattle.rulefiles.specs.Decisions.{override}
 use Rattle.attributenames.specs.Names.{good_name}
-use Rattle.bytestrings.specs.Bytes.{same_bytes, begins_with, first_is, has, length_until}
+use Rattle.bytestrings.specs.Bytes.{same_bytes, begins_with}
 use Rattle.entries.specs.Entries.{Entry, applies, Subject, subject_of, pattern_matches}
+use Rattle.bytestrings.specs.Bytes.{first_is, has, length_until}
 use Rattle.attributelines.specs.declared.State.{State}
 use Rattle.attributelines.specs.declared.State.TheVariants.{Set, Unset, Value, Unspecified}
 use Rattle.attributelines.specs.declared.Effect.{Effect}
@@ -21,7 +22,7 @@ abbrev pub starts_token : List ℕ → Bool
 starts_token [] = false
 starts_token (b ∷ s) = not (is_blank b)
 
--- a token of a line: a longest row of bytes that are no blanks, and where it starts in the line
+-- a token of a line: a longest row of bytes that are no blanks, and where it starts in the rule bytes
 pub record Token : Type 0 where
   pub start : ℕ
   pub bytes : List ℕ
@@ -31,7 +32,7 @@ abbrev pub widened : ℕ → ℕ → List Token → List Token
 widened at b [] = []
 widened at b (w ∷ ws) = record { start = at; bytes = b ∷ w.bytes } ∷ ws
 
--- the tokens of a line's bytes from a place of the line on. "Leading and trailing blanks go"
+-- the tokens of a line's bytes that start at a place of the rule bytes. "Leading and trailing blanks go"
 unfoldable pub tokens : ℕ → List ℕ → List Token
 tokens at [] = []
 tokens at (b ∷ s) =
@@ -50,7 +51,7 @@ pub record Mention : Type 0 where
   pub name : List ℕ
   pub state : State
 
--- "`name` sets .. `name=v` gives value v, perhaps empty"; a value is "its start and length", here in the line
+-- "`name` sets .. `name=v` gives value v, perhaps empty"; a value is "its start and length in the rule bytes"
 unfoldable pub plain_mention : ℕ → List ℕ → Mention
 plain_mention at w =
     record {
@@ -97,21 +98,14 @@ abbrev pub tokens_state : Subject → List ℕ → List Token → Option State
 tokens_state subject attribute [] = none
 tokens_state subject attribute (p ∷ ws) = rule_state subject attribute p.bytes ws
 
--- the state that the bytes of a line give an attribute
-unfoldable pub line_state : Subject → List ℕ → List ℕ → Option State
-line_state subject attribute bytes = tokens_state subject attribute (tokens 0 bytes)
-
--- "a value being its start and length in the rule bytes": the state that a line gives counts from the line's start, which is added
-unfoldable pub in_rules : ℕ → State → State
-in_rules start Set = Set
-in_rules start Unset = Unset
-in_rules start (Value v) = Value (record { start = start + v.start; length = v.length })
-in_rules start Unspecified = Unspecified
+-- the state that the bytes of a line, at a place of the rule bytes, give an attribute
+unfoldable pub line_state : Subject → List ℕ → ℕ → List ℕ → Option State
+line_state subject attribute at bytes = tokens_state subject attribute (tokens at bytes)
 
 -- the effect of a line on an attribute of an entry, if its file applies. "BOM and byte 10 as above": the lines are those of the ignore question
 unfoldable pub attribute_effect : Bool → Entry → List ℕ → Line → Option State
 attribute_effect fold e attribute l =
-    cond (applies l.base e) (map (in_rules l.start) (line_state (subject_of fold l.base e) attribute l.bytes)) none
+    cond (applies l.base e) (line_state (subject_of fold l.base e) attribute l.start l.bytes) none
 
 -- the effect that the code's answer stands for
 abbrev pub state_of : Effect → Option State

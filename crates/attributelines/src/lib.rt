@@ -1,5 +1,7 @@
 // The effect of one attribute line on one attribute of one entry: none, or the state that its last mention gives. For a user: docs/RULES.md,
 // "Attribute lines".
+#![tactic(auto)]
+
 ghost use Rattle.std.specs.Prelude.{◌≡◌, drop};
 ghost use Rattle.entries.specs.Entries.{against};
 ghost use Rattle.attributelines.specs.AttributeLines.{tokens, definition, pattern_dropped, line_state, state_of};
@@ -14,7 +16,7 @@ use attributenames::name_good;
 use bytestrings::same_bytes;
 use entries::pattern_matches;
 
-// A value's place: in an effect it is counted from the start of the line, in a question's answer from the start of the rule bytes.
+// A value's place in the rule bytes.
 #[derive(Drop)]
 pub struct Span {
     pub start: usize,
@@ -69,23 +71,22 @@ fn pattern_dropped(pattern: &[u8]) -> bool
     is_definition(pattern)
 }
 
-// The effect of the mentions from a place of the line on; a bad name among them drops the line.
-fn mentions_effect(line: &[u8], from: usize, attribute: &[u8]) -> Effect
-    ensures { state_of result ≡ mentions_state attribute.now (tokens from (drop from line.now)) }
+// The effect of the mentions from a place of the text on; a bad name among them drops the line.
+fn mentions_effect(text: &[u8], from: usize, attribute: &[u8]) -> Effect
+    ensures { state_of result ≡ mentions_state attribute.now (tokens from (drop from text.now)) }
 {
     let mut effect = Effect::None;
     let mut i = from;
-    while i < line.len() {
-        let start = blanks_end(line, i);
-        if start == line.len() {
+    while i < text.len() {
+        let start = blanks_end(text, i);
+        if start == text.len() {
             return effect;
         }
-        let end = token_end(line, start);
-        let token = &line[start..end];
-        let name = mention_name(token);
+        let end = token_end(text, start);
+        let name = mention_name(&text[..end], start);
         if name_good(name) {
             if same_bytes(name, attribute) {
-                effect = Effect::Assigns(mention_state(token, start));
+                effect = Effect::Assigns(mention_state(&text[..end], start));
             }
         } else {
             return Effect::None;
@@ -95,30 +96,29 @@ fn mentions_effect(line: &[u8], from: usize, attribute: &[u8]) -> Effect
     effect
 }
 
-// The effect of a line on the attribute: the rest is the entry from the base on, the component its last one.
+// The effect on the attribute of the line that starts at a place of the text and ends with it: the rest is the entry from the base on, the
+// component its last one.
 pub fn line_effect(
-    line: &[u8],
+    text: &[u8],
+    at: usize,
     attribute: &[u8],
     rest: &[u8],
     component: &[u8],
     directory: bool,
     fold: bool,
 ) -> Effect
-    ensures { state_of result ≡ line_state (against rest.now component.now directory fold) attribute.now line.now }
+    ensures { state_of result ≡ line_state (against rest.now component.now directory fold) attribute.now at (drop at text.now) }
 {
-    let start = blanks_end(line, 0);
-    if start == line.len() {
+    let start = blanks_end(text, at);
+    if text.len() <= start {
         return Effect::None;
     }
-    // Cut out of the rest of the line: `token_end(line, start)` makes two moves more for each byte of the token.
-    let text = &line[start..];
-    let length = token_end(text, 0);
-    let pattern = &text[..length];
-    if pattern_dropped(pattern) {
+    let end = token_end(text, start);
+    if pattern_dropped(&text[start..end]) {
         return Effect::None;
     }
-    if pattern_matches(pattern, rest, component, directory, fold) {
-        return mentions_effect(line, start + length, attribute);
+    if pattern_matches(&text[start..end], rest, component, directory, fold) {
+        return mentions_effect(text, end, attribute);
     }
     Effect::None
 }

@@ -1,61 +1,54 @@
-// One mention, by its own bytes.
-ghost use Rattle.std.specs.Prelude.{◌≡◌, ℕ, ◌+◌, ◌<◌, ◌^◌, length};
-ghost use Rattle.attributelines.specs.AttributeLines.{name_length, name_in, mention};
+// One mention: a token that starts at a place of the text and ends with it.
+ghost use Rattle.std.specs.Prelude.{◌≡◌, ◌+◌, drop};
+ghost use Rattle.attributelines.specs.AttributeLines.{name_length, mention};
 
 use crate::{Span, State};
 use bytestrings::find_byte;
 
-// How many bytes stand before the first `=`: all, where there is none.
-fn name_length(bytes: &[u8]) -> usize
-    ensures { result ≡ name_length bytes.now }
+// The place of the next `=`, or the end.
+fn name_end(text: &[u8], at: usize) -> usize
+    ensures { result ≡ at + name_length (drop at text.now) }
 {
-    find_byte(bytes, 0, b'=')
+    find_byte(text, at, b'=')
 }
 
-// The mention after its `-` or `!`, if it has one: its name stands first there.
-fn without_sign(token: &[u8]) -> &[u8]
-    ensures { (at : ℕ) → name_in result.now ≡ (mention at token.now).name }
+// The attribute that the mention names, after a `-` or `!`.
+pub fn mention_name(text: &[u8], at: usize) -> &[u8]
+    ensures { result.now ≡ (mention at (drop at text.now)).name }
 {
-    if token.len() == 0 {
-        return token;
+    if text.len() <= at {
+        return &text[..0];
     }
-    if token[0] == b'-' {
-        return &token[1..];
+    let b = text[at];
+    if b == b'-' {
+        return &text[at + 1..name_end(text, at + 1)];
     }
-    if token[0] == b'!' {
-        return &token[1..];
+    if b == b'!' {
+        return &text[at + 1..name_end(text, at + 1)];
     }
-    token
+    &text[at..name_end(text, at)]
 }
 
-// The attribute that the mention names, wherever it stands.
-pub fn mention_name(token: &[u8]) -> &[u8]
-    ensures { (at : ℕ) → result.now ≡ (mention at token.now).name }
+// The state that the mention gives.
+pub fn mention_state(text: &[u8], at: usize) -> State
+    ensures { result ≡ (mention at (drop at text.now)).state }
 {
-    let bytes = without_sign(token);
-    &bytes[..name_length(bytes)]
-}
-
-// The state that the mention gives; the start is its place in the line, since a value's place is counted there.
-pub fn mention_state(token: &[u8], start: usize) -> State
-    requires { start + length token.now < 2 ^ 64 }
-    ensures { result ≡ (mention start token.now).state }
-{
-    if token.len() == 0 {
+    if text.len() <= at {
         return State::Set;
     }
-    if token[0] == b'-' {
+    let b = text[at];
+    if b == b'-' {
         return State::Unset;
     }
-    if token[0] == b'!' {
+    if b == b'!' {
         return State::Unspecified;
     }
-    let end = name_length(token);
-    if end == token.len() {
+    let end = name_end(text, at);
+    if end == text.len() {
         return State::Set;
     }
     State::Value(Span {
-        start: start + end + 1,
-        length: token.len() - (end + 1),
+        start: end + 1,
+        length: text.len() - (end + 1),
     })
 }

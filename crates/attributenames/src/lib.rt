@@ -1,5 +1,7 @@
 // Which names an attribute may have: refusal 6 asks it of the name asked for, and attribute lines, without the 255, of each name on them.
 // For a user: docs/RULES.md, "Attribute lines" and "Limits and refusals".
+#![tactic(auto)]
+
 ghost use Rattle.std.specs.Prelude.{◌≡◌, ◌↔◌, true};
 ghost use Rattle.bytestrings.specs.Bytes.{in_range};
 ghost use Rattle.attributenames.specs.Names.{name_byte, good_name, BadName};

@@ -1,5 +1,7 @@
 // Where a pattern is broken: its items are read, of which only the sizes matter (sizes.rt), and no byte is tested. The place does not depend on a text
 // or a mode, so it is asked of the pattern alone. For a user: docs/RULES.md, "Patterns".
+#![tactic(auto)]
+
 ghost use Rattle.std.specs.Prelude.{◌≡◌, true, ◌<◌, length, get_or};
 ghost use Rattle.brokenplaces.specs.BrokenPlaces.{broken_at, reading_of};
 ghost use Rattle.brokenplaces.specs.inner.ItemSizes.{may_break, first_size};

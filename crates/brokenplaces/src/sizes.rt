@@ -89,7 +89,7 @@ fn name_size(q: &[u8], n: usize) -> usize
 
 // All members up to the closing `]`, which counts; 0 where one of them is broken or no `]` closes. The place of the next `]` is kept,
 // so that it is searched once for all the `[:` before it.
-fn members_size(q: &[u8]) -> usize
+pub fn members_size(q: &[u8]) -> usize
     ensures { result ≡ members_size (members q.now 0 true) }
 {
     let mut i = 0;

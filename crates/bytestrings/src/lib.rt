@@ -1,6 +1,8 @@
 // What several crates need of bytes and none owns: whether two slices are the same, where a byte stands, the two cases of a letter (letters.rt).
 // The lowest crate: its laws on lists, slices and tests stand once, here, for all others.
 // For a user: docs/RULES.md, "Folding case".
+#![tactic(auto)]
+
 ghost use Rattle.std.specs.Prelude.{◌≡◌, ◌+◌, eqb, drop};
 ghost use Rattle.bytestrings.specs.Bytes.{same_bytes, length_until};
 

@@ -45,7 +45,7 @@ fn read_single(b: u8, n: usize, q: &[u8]) -> Next
 }
 
 // How many bytes stand before the next `]`.
-fn until_close(q: &[u8]) -> usize
+pub fn until_close(q: &[u8]) -> usize
     ensures { result ≡ until_close q.now }
 {
     find_byte(q, 0, b']')

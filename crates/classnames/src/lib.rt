@@ -1,5 +1,7 @@
 // The twelve names of a class, and the bytes that each lists, in two constant tables of one order: the one list that document 01 takes from POSIX.
 // For a user: docs/RULES.md, "Bracket classes".
+#![tactic(auto)]
+
 ghost use Rattle.std.specs.Prelude.{◌≡◌, ◌<◌, length, get_or};
 ghost use Rattle.classnames.specs.Names.{named, which_name};
 ghost use Rattle.classnames.specs.inner.PackedNames.{packed_name, packed_names};

@@ -1,5 +1,7 @@
 // The plain engine: whether a pattern matches a text. It works on any bytes and refuses nothing; the matcher's refusals stand in wildmatch, and
 // both questions ask it through entries. Its contract is `MatchDecided` and no more, so that another engine can be held to the same.
+#![tactic(auto)]
+
 ghost use Rattle.patterns.specs.MatchTest.{MatchDecided};
 
 mod matcher;

@@ -1,5 +1,7 @@
 // How the pattern of a line, ignore or attribute, is matched against an entry: directories only, anchored or by the last component. Most lines match
 // no entry at hand, so a prefilter asks their last and first byte before the engine. For a user: docs/RULES.md, "Ignore lines".
+#![tactic(auto)]
+
 ghost use Rattle.std.specs.Prelude.{◌≡◌, true};
 ghost use Rattle.patterns.specs.MatchTest.{matches_test};
 ghost use Rattle.bytestrings.specs.Bytes.{has};

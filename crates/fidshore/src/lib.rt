@@ -1,4 +1,6 @@
 // The calls of the C loader, and nothing else: numbers and byte slices in, one code number out. For a user: docs/RULES.md, "Answers".
+#![tactic(auto)]
+
 ghost use Rattle.fidshore.specs.Codes.{MatchCode, IgnoreCode, AttributeCode};
 
 use answers::{attribute_code, ignore_code};

@@ -1,4 +1,6 @@
 // The effect of one ignore line on one entry: none, or that it ignores or re-includes it. For a user: docs/RULES.md, "Ignore lines".
+#![tactic(auto)]
+
 ghost use Rattle.std.specs.Prelude.{◌≡◌, false};
 ghost use Rattle.entries.specs.Entries.{against};
 ghost use Rattle.ignorelines.specs.IgnoreLines.{without_cr, kept, rule_effect, line_effect, verdict_of};

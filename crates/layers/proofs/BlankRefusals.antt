@@ -11,7 +11,7 @@ use lib.ListN.{length, take, drop, get_or}
 use Rattle.rulefiles.specs.RuleFiles.{File, onto, split, has_bom, bom_length, files}
 use Rattle.refusals.specs.Limits.{line_limit}
 use Rattle.refusals.specs.Refusals.{Accepted}
-use Rattle.questionrefusals.specs.Conditions.{last_end, BadLists, HasLongLine, LongLine, IgnoreRefuses, AttributeRefuses}
+use Rattle.questionrefusals.specs.Conditions.{last_end, BadLists, LongLine, IgnoreRefuses, AttributeRefuses}
 use Rattle.layers.specs.Blanking.{Choice, overwritten, blanked_file, blanked}
 use Rattle.layers.proofs.SpaceLines.{spaces, length-spaces}
 use Rattle.layers.proofs.BlankBytes.{with_or_behind}
@@ -117,7 +117,7 @@ module _ (path rules ends bases : List ℕ) (flags : ℕ) where
 module _ (path rules ends bases : List ℕ) (flags : ℕ) (chosen : Choice) where
   -- no condition arises
   refuses_before : (BadLists path rules ends bases → ⊥) → (n : ℕ) → IgnoreRefuses path (blanked chosen rules ends bases) ends bases flags n → IgnoreRefuses path rules ends bases flags n
-  unfolding IgnoreRefuses BadLists LongLine HasLongLine
+  unfolding IgnoreRefuses BadLists LongLine
   refuses_before ok n c =
       let same = lists_same path rules ends bases ok in
       let rise = lists_rising path rules ends bases ok in

@@ -63,4 +63,4 @@ tokens_space at (b ∷ s) = tokens_space (suc at) s
 
 pub attribute_space : (fold : Bool) (e : Entry) (attribute : List ℕ) (l : Line) (s : List ℕ) → l.bytes ≡ spaces s → attribute_effect fold e attribute l ≡ none
 unfolding attribute_effect line_state
-attribute_space fold e attribute l s h = rw (h, tokens_space 0 s) (cond_none (applies l.base e) none refl)
+attribute_space fold e attribute l s h = rw (h, tokens_space l.start s) (cond_none (applies l.base e) none refl)

@@ -1,5 +1,7 @@
 // Which of many rule files are lent for a path: those that stand above it, end to end and in their order. It serves the command-line program and is no
 // part of the base. For a user: docs/RULES.md, "Rule files and lines".
+#![tactic(auto)]
+
 ghost use Rattle.std.specs.Prelude.{◌≡◌};
 ghost use Rattle.lending.specs.Lending.{parts, above, lend_one, lists, Lends};
 ghost use Rattle.lending.specs.inner.Room.{Within, taken};

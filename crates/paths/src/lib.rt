@@ -1,4 +1,6 @@
 // Refusal 1: what a path must not be. It is asked of a path alone, whatever rules are lent with it. For a user: docs/RULES.md, "Limits and refusals".
+#![tactic(auto)]
+
 ghost use Rattle.std.specs.Prelude.{◌≡◌, ◌↔◌, true, ◌+◌, ◌≤◌, length, drop};
 ghost use Rattle.paths.specs.Paths.{ControlByte, HoldsControl, BadPath};
 ghost use Rattle.bytestrings.specs.inner.Places.{ByteIn};

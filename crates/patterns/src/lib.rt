@@ -1,5 +1,7 @@
 // How a pattern is read: its items and its runs of stars; and what each item may take. The definitions say when a pattern matches a text; an engine
 // decides it (engine), over these leaves. Everything here works on any bytes. For a user: docs/RULES.md, "Patterns".
+#![tactic(auto)]
+
 pub mod items;
 pub mod runs;
 

@@ -27,7 +27,7 @@ pub fn starts_slash(p: &[u8]) -> bool
 }
 
 // Whether the end, `/` or `\/` is next.
-fn component_ends(p: &[u8]) -> bool
+pub fn component_ends(p: &[u8]) -> bool
     ensures { result ≡ component_ends p.now }
 {
     if p.len() == 0 {

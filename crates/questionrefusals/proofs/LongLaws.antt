@@ -15,8 +15,8 @@ use Rattle.bytestrings.specs.Text.{newline}
 use Rattle.rulefiles.specs.RuleFiles.{File, onto, split, line_length, bytes_between, files_from, files}
 use Rattle.rulefiles.proofs.LineLaws.{split_first, line_fits}
 use Rattle.refusals.specs.Limits.{line_limit}
-use Rattle.questionrefusals.specs.Conditions.{HasLongLine, LongLine}
-use Rattle.questionrefusals.specs.inner.Scans.{AfterNewline}
+use Rattle.questionrefusals.specs.Conditions.{LongLine}
+use Rattle.questionrefusals.specs.inner.Scans.{LongIn, AfterNewline}
 use Rattle.bytestrings.proofs.OrderLaws.{before_or_not}
 use Rattle.bytestrings.proofs.SliceLaws.{next}
 
@@ -58,8 +58,8 @@ cut (b ∷ x) y = go (eqb b newline) refl (cut x y)
     go false e k = record { first = b ∷ k.first; more = k.more; is = rw (e, k.is); short = within-onto b (k.first ∷ k.more) (length x) k.short }
 
 -- A line over the limit stands after a newline that comes within the limit, or begins the bytes, or is not.
-long_behind : (x y : List ℕ) → length x ≤ line_limit → HasLongLine (x ++ newline ∷ y) ↔ HasLongLine y
-unfolding HasLongLine
+long_behind : (x y : List ℕ) → length x ≤ line_limit → LongIn (x ++ newline ∷ y) ↔ LongIn y
+unfolding LongIn
 long_behind x y h =
     let k = cut x y in
     let ls : List (List ℕ) = k.first ∷ k.more in (
@@ -67,14 +67,14 @@ long_behind x y h =
       λ p. (p.0, subst (λ (q : List (List ℕ)). Memᴰ p.0 q) (sym k.is) (Memᴰ.append_right ls p.1), p.2),
     )
 
-long_first : (d : List ℕ) → line_limit < line_length d → HasLongLine d
-unfolding HasLongLine
+long_first : (d : List ℕ) → line_limit < line_length d → LongIn d
+unfolding LongIn
 long_first d h =
     let f = line_fits d in
     (take (line_length d) d, subst (λ (q : List (List ℕ)). Memᴰ (take (line_length d) d) q) (sym (split_first d (omega arith))) (Memᴰ.head refl), rw (length-take-le (line_length d) d f) h)
 
-long_none : (d : List ℕ) → length d ≤ line_limit → HasLongLine d → ⊥
-unfolding HasLongLine
+long_none : (d : List ℕ) → length d ≤ line_limit → LongIn d → ⊥
+unfolding LongIn
 long_none d h p = omega (arith, p.2, within-split d p.0 p.1)
 
 far : (d : List ℕ) (m : ℕ) → m ≤ length d → ((k : ℕ) → k < m → get_or d k 0 ≡ newline → ⊥) → m ≤ line_length d
@@ -84,16 +84,16 @@ far (b ∷ d) (suc m) h n = rw (ne_eqb b newline (n 0 (omega arith))) (omega (ar
 
 -- The same from a place of a file on.
 module _ (s : List ℕ) (at : ℕ) where
-  pub long_over : at ≤ length s → length s - at ≤ line_limit → HasLongLine (drop at s) → ⊥
+  pub long_over : at ≤ length s → length s - at ≤ line_limit → LongIn (drop at s) → ⊥
   long_over l h = long_none (drop at s) (simp length-drop h)
 
   module _ (to : ℕ) (l : line_limit < length s - at) (k : AfterNewline s at (at + line_limit + 1) to) where
-    pub long_here : to ≡ at → HasLongLine (drop at s)
+    pub long_here : to ≡ at → LongIn (drop at s)
     long_here e =
         long_first (drop at s)
         (far (drop at s) (line_limit + 1) (simp length-drop (omega arith)) (λ i h q. k.not_found e (at + i) (omega arith) (omega arith) (sym (get_or-drop at s i 0) ∙ q)))
 
-    pub long_skip : (to ≡ at → ⊥) → HasLongLine (drop at s) ↔ HasLongLine (drop to s)
+    pub long_skip : (to ≡ at → ⊥) → LongIn (drop at s) ↔ LongIn (drop to s)
     long_skip n =
         let a : at < to = omega (arith, k.from) in
         let j = to - at - 1 in
@@ -104,14 +104,14 @@ module _ (s : List ℕ) (at : ℕ) where
         let p : drop at s ≡ take j (drop at s) ++ newline ∷ drop to s =
         split_at (drop at s) j 0 (simp length-drop (omega arith)) ∙ ap (λ (x : ℕ). take j (drop at s) ++ x ∷ drop (suc j) (drop at s)) g
         ∙ ap (λ (q : List ℕ). take j (drop at s) ++ newline ∷ q) (drop-drop (suc j) at s ∙ ap (λ (i : ℕ). drop i s) f) in
-        subst (λ (q : List ℕ). HasLongLine q ↔ HasLongLine (drop to s)) (sym p) (long_behind (take j (drop at s)) (drop to s) (simp length-take (omega arith)))
+        subst (λ (q : List ℕ). LongIn q ↔ LongIn (drop to s)) (sym p) (long_behind (take j (drop at s)) (drop to s) (simp length-take (omega arith)))
 
 -- The files, one after the other.
 unfoldable pub LongFiles : List File → Type 0
-LongFiles fs = (f : File) × Memᴰ f fs × HasLongLine f.bytes
+LongFiles fs = (f : File) × Memᴰ f fs × LongIn f.bytes
 
 pub files_begin : (rules ends bases : List ℕ) → LongLine rules ends bases ↔ LongFiles (files_from 0 0 rules (drop 0 ends) (drop 0 bases))
-unfolding LongLine HasLongLine LongFiles files
+unfolding LongLine LongIn LongFiles files
 files_begin rules ends bases = (λ p. p, λ p. p)
 
 module _ (rules ends bases : List ℕ) (start i : ℕ) where
@@ -133,18 +133,18 @@ module _ (rules ends bases : List ℕ) (start i : ℕ) where
           ∷ files_from (i + 1) (get_or ends i 0) rules (drop (i + 1) ends) (drop (i + 1) bases)
       file = rw (next ends i l, next bases i m, add-one i)
 
-      pub file_long : HasLongLine (bytes_between start (get_or ends i 0) rules) → LongFiles (files_from i start rules (drop i ends) (drop i bases))
+      pub file_long : LongIn (bytes_between start (get_or ends i 0) rules) → LongFiles (files_from i start rules (drop i ends) (drop i bases))
       unfolding LongFiles
       file_long h =
           subst (λ (fs : List File). LongFiles fs) (sym file)
           (record { number = i; base = get_or bases i 0; start = start; bytes = bytes_between start (get_or ends i 0) rules }, Memᴰ.head refl, h)
 
-      pub file_fine : (HasLongLine (bytes_between start (get_or ends i 0) rules) → ⊥)
+      pub file_fine : (LongIn (bytes_between start (get_or ends i 0) rules) → ⊥)
           → LongFiles (files_from i start rules (drop i ends) (drop i bases)) ↔ LongFiles (files_from (i + 1) (get_or ends i 0) rules (drop (i + 1) ends) (drop (i + 1) bases))
       unfolding LongFiles
       file_fine n =
           subst (λ (fs : List File). LongFiles fs ↔ LongFiles (files_from (i + 1) (get_or ends i 0) rules (drop (i + 1) ends) (drop (i + 1) bases))) (sym file) (
-            λ p. ⊎_elim (λ e. absurd (n (subst (λ (f : File). HasLongLine f.bytes) e p.2))) (λ m. (p.0, m, p.2)) (Memᴰ.cases_cons p.1),
+            λ p. ⊎_elim (λ e. absurd (n (subst (λ (f : File). LongIn f.bytes) e p.2))) (λ m. (p.0, m, p.2)) (Memᴰ.cases_cons p.1),
             λ p. (p.0, Memᴰ.tail p.1, p.2),
           )
 

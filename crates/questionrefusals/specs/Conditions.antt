@@ -37,21 +37,13 @@ BadLists path rules ends bases =
     ⊎ ((last_end ends ≡ length rules → ⊥)
     ⊎ BaseMisplaced path bases)))
 
--- 3, of so many bytes: "rule bytes over 65,536"
-abbrev pub ManyRuleBytes : ℕ → Type 0
-ManyRuleBytes count = rules_limit < count
-
--- 3: these are so many
+-- 3: "rule bytes over 65,536"
 abbrev pub RulesLong : List ℕ → Type 0
-RulesLong rules = ManyRuleBytes (length rules)
+RulesLong rules = rules_limit < length rules
 
--- 5, of one file: "a line over 2,048 bytes, counted with BOM and CR but without its newline": the file's bytes are split as they are
-unfoldable pub HasLongLine : List ℕ → Type 0
-HasLongLine bytes = (l : List ℕ) × Memᴰ l (split bytes) × (line_limit < length l)
-
--- 5: one of the files has such a line
+-- 5: "a line over 2,048 bytes, counted with BOM and CR but without its newline": the file's bytes are split as they are
 unfoldable pub LongLine : List ℕ → List ℕ → List ℕ → Type 0
-LongLine rules ends bases = (f : File) × Memᴰ f (files rules ends bases) × HasLongLine f.bytes
+LongLine rules ends bases = (f : File) × Memᴰ f (files rules ends bases) × ((l : List ℕ) × Memᴰ l (split f.bytes) × (line_limit < length l))
 
 -- What the ignore question is refused for: 1 to 5 and 9; the condition of 4 is `HoldsZero`
 unfoldable pub IgnoreRefuses : List ℕ → List ℕ → List ℕ → List ℕ → ℕ → ℕ → Type 0

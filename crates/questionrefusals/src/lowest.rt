@@ -4,7 +4,7 @@ ghost use Rattle.questionrefusals.specs.Conditions.{IgnoreRefuses, AttributeRefu
 ghost use Rattle.questionrefusals.specs.inner.Checks.{LentFirstHolding};
 
 use crate::lists::lists_bad;
-use crate::rules::{long_line, rules_long};
+use crate::rules::{line_long, rules_long};
 use attributenames::name_bad;
 use paths::path_bad;
 use refusals::flags::flags_high;
@@ -20,13 +20,13 @@ fn lent_refusal(path: &[u8], rules: &[u8], ends: &[usize], bases: &[usize]) -> u
     if lists_bad(path, rules, ends, bases) {
         return 2;
     }
-    if rules_long(rules.len()) {
+    if rules_long(rules) {
         return 3;
     }
     if holds_zero(rules) {
         return 4;
     }
-    if long_line(rules, ends, bases) {
+    if line_long(rules, ends, bases) {
         return 5;
     }
     0

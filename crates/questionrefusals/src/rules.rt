@@ -1,7 +1,7 @@
-// Refusals 3 and 5: how many rule bytes, and how long their lines.
+// Refusals 3 and 5: the rule bytes and their lines.
 ghost use Rattle.std.specs.Prelude.{◌≡◌, ◌↔◌, true, ◌≤◌, length};
-ghost use Rattle.questionrefusals.specs.Conditions.{ManyRuleBytes, HasLongLine, LongLine};
-ghost use Rattle.questionrefusals.specs.inner.Scans.{AfterNewline};
+ghost use Rattle.questionrefusals.specs.Conditions.{RulesLong, LongLine};
+ghost use Rattle.questionrefusals.specs.inner.Scans.{LongIn, AfterNewline};
 
 use rulefiles::file_part;
 
@@ -9,11 +9,11 @@ const RULES_LIMIT: usize = 65536;
 
 const LINE_LIMIT: usize = 2048;
 
-// Whether so many rule bytes are over their limit.
-pub fn rules_long(count: usize) -> bool
-    ensures { (result ≡ true) ↔ ManyRuleBytes count }
+// Whether the rule bytes are over their limit.
+pub fn rules_long(rules: &[u8]) -> bool
+    ensures { (result ≡ true) ↔ RulesLong rules.now }
 {
-    RULES_LIMIT < count
+    RULES_LIMIT < rules.len()
 }
 
 // The place just after the last newline from `at` on and before `end`, or `at` where there is none.
@@ -34,8 +34,8 @@ fn after_newline(file: &[u8], at: usize, end: usize) -> usize
 
 // Whether a line of the file is over its limit. A newline among one byte more than the limit shows that the lines before it are not,
 // so most bytes are never read.
-pub fn has_long_line(file: &[u8]) -> bool
-    ensures { (result ≡ true) ↔ HasLongLine file.now }
+fn long_in(file: &[u8]) -> bool
+    ensures { (result ≡ true) ↔ LongIn file.now }
 {
     let mut at = 0;
     while LINE_LIMIT < file.len() - at {
@@ -49,7 +49,7 @@ pub fn has_long_line(file: &[u8]) -> bool
 }
 
 // Whether a line of one of the files is over its limit.
-pub fn long_line(rules: &[u8], ends: &[usize], bases: &[usize]) -> bool
+pub fn line_long(rules: &[u8], ends: &[usize], bases: &[usize]) -> bool
     ensures { (result ≡ true) ↔ LongLine rules.now ends.now bases.now }
 {
     let mut start = 0;
@@ -59,7 +59,7 @@ pub fn long_line(rules: &[u8], ends: &[usize], bases: &[usize]) -> bool
             return false;
         }
         let end = ends[i];
-        if has_long_line(file_part(rules, start, end)) {
+        if long_in(file_part(rules, start, end)) {
             return true;
         }
         start = end;

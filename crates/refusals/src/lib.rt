@@ -1,5 +1,7 @@
 // What the matcher refuses, 7 to 9, and what all calls share of refusing: the limits, byte 0, the flags, and "the lowest is answered". Refusal 1 stands in
 // paths, 6 in attributenames, 2, 3, 5 and the questions' lowest in questionrefusals. For a user: docs/RULES.md, "Limits and refusals".
+#![tactic(auto)]
+
 ghost use Rattle.std.specs.Prelude.{◌≡◌, ◌↔◌, true, ◌+◌, ◌≤◌, length};
 ghost use Rattle.refusals.specs.Refusals.{TooLong, HoldsZero};
 ghost use Rattle.bytestrings.specs.inner.Places.{ByteIn, Zero};

@@ -16,7 +16,7 @@ place_at file number = record { file = file; line = number }
 
 -- the same of a line
 unfoldable pub place_of : Line → Place
-place_of l = place_at l.file l.number
+place_of l = record { file = l.file; line = l.number }
 
 -- the decision of a line with this effect, if it has one
 abbrev pub decision_by : {A : Type 0} → Line → Option A → Option (Decision A)

@@ -1,5 +1,7 @@
 // Rule files end to end in one lent buffer: a file's bytes, its BOM, the end of a line. The definitions beside it say what the lines of all files
 // are and which of them decides; both questions stand on these. For a user: docs/RULES.md, "Rule files and lines".
+#![tactic(auto)]
+
 ghost use Rattle.std.specs.Prelude.{◌≡◌, ◌+◌, drop};
 ghost use Rattle.rulefiles.specs.Decisions.{place_at};
 ghost use Rattle.rulefiles.specs.RuleFiles.{bytes_between, bom_length, line_length};

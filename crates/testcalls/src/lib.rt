@@ -1,5 +1,7 @@
 // For the outside tests only, no part of the product: the matcher and both questions with the complete answer, its number as the result, its values in a
 // lent list; where a pattern is broken; and whether a class name lists a byte. C gets the number alone (crate `fidshore`).
+#![tactic(auto)]
+
 ghost use Rattle.std.specs.Prelude.{◌≡◌, [], ◌∷◌, ◌++◌};
 ghost use Rattle.answers.specs.Complete.{place_values, state_values, complete_ignore, complete_attribute};
 ghost use Rattle.wildmatch.specs.Answers.{values_of};

@@ -1,5 +1,7 @@
 // Runs the tables of documents 001 and 01 that data/ holds, those of the matcher in its four modes, and compares the answers.
 // Writes each answer that differs, what passed of each section, and the totals.
+#![tactic(auto)]
+
 use libc::STDOUT_FILENO;
 
 mod fields;

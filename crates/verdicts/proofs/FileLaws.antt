@@ -8,7 +8,7 @@ use lib.ListN.{length, take, drop, get_or, drop_of_length-le}
 use lib.Seq.{drop-drop}
 use Rattle.bytestrings.proofs.SliceLaws.{next}
 use Rattle.rulefiles.specs.RuleFiles.{File, Line, bytes_between, split, bom_length, files_from, lines_from, lines_of, lines_of_all}
-use Rattle.rulefiles.specs.Decisions.{place_at, Decision, place_of, decision_by, override, last_decision}
+use Rattle.rulefiles.specs.Decisions.{Decision, place_of, decision_by, override, last_decision}
 use Rattle.rulefiles.proofs.PartLaws.{part_upto}
 use Rattle.rulefiles.proofs.DecisionLaws.{override_assoc, last_append}
 use Rattle.verdicts.specs.inner.Scan.{decision_at, last_in, content_start, last_in_file}
@@ -18,7 +18,7 @@ abbrev pub file_at : List ℕ → List ℕ → List ℕ → ℕ → ℕ → File
 file_at rules ends bases k start = record { number = k; base = get_or bases k 0; start = start; bytes = bytes_between start (get_or ends k 0) rules }
 
 module _ {A : Type 0} (effect : Line → Option A) where
-  decision_at_lem : (l : Line) (o : Option A) → decision_by l o ≡ decision_at (place_at l.file l.number) o
+  decision_at_lem : (l : Line) (o : Option A) → decision_by l o ≡ decision_at l.file l.number o
   unfolding place_of
   decision_at_lem l none = refl
   decision_at_lem l (some a) = refl

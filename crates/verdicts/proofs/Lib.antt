@@ -3,4 +3,3 @@ pub mod ScanLaws
 pub mod FileLaws
 pub mod VerdictLaws
 pub mod ParentLaws
-pub mod ValueLaws

@@ -9,7 +9,7 @@ use mathlib.Core.Option.{Option}
 use lib.ListN.{length, take, drop, length-drop, drop_of_length-le}
 use lib.Seq.{drop-drop, length-take-le, take_all}
 use Rattle.rulefiles.specs.RuleFiles.{split, line_length, has_bom, bom_length}
-use Rattle.rulefiles.specs.Decisions.{place_at, Decision, override}
+use Rattle.rulefiles.specs.Decisions.{Decision, override}
 use Rattle.rulefiles.proofs.LineLaws.{split_none, split_first, line_fits}
 use Rattle.rulefiles.proofs.DecisionLaws.{override_assoc}
 use Rattle.verdicts.specs.inner.Scan.{decision_at, last_in, content_start, last_in_file}
@@ -38,7 +38,7 @@ module _ {A : Type 0} (effect : ℕ → List ℕ → Option A) (file : ℕ) wher
   -- the line at place i, and the lines after it
   line_first : (upto : List ℕ) (line i end : ℕ) → i < length upto → end ≡ i + line_length (drop i upto)
       → last_in effect file line i (split (drop i upto))
-      ≡ override (decision_at (place_at file line) (effect i (take (end - i) (drop i upto)))) (last_in effect file (line + 1) (end + 1) (split (drop (end + 1) upto)))
+      ≡ override (decision_at file line (effect i (take (end - i) (drop i upto)))) (last_in effect file (line + 1) (end + 1) (split (drop (end + 1) upto)))
   line_first upto line i end h e =
       let d : List ℕ = drop i upto in
       let k : ℕ = line_length d in
@@ -52,11 +52,11 @@ module _ {A : Type 0} (effect : ℕ → List ℕ → Option A) (file : ℕ) wher
 
   -- one turn: the decision before, overridden by the line's, and then by the lines after it
   pub line_turn : (upto : List ℕ) (line i end : ℕ) (before after : Option (Decision A)) → i < length upto → end ≡ i + line_length (drop i upto)
-      → after ≡ override before (decision_at (place_at file line) (effect i (take (end - i) (drop i upto))))
+      → after ≡ override before (decision_at file line (effect i (take (end - i) (drop i upto))))
       → override before (last_in effect file line i (split (drop i upto))) ≡ override after (last_in effect file (line + 1) (end + 1) (split (drop (end + 1) upto)))
   line_turn upto line i end before after h e q =
       ap (override before) (line_first upto line i end h e)
-      ∙ sym (override_assoc before (decision_at (place_at file line) (effect i (take (end - i) (drop i upto)))) (last_in effect file (line + 1) (end + 1) (split (drop (end + 1) upto))))
+      ∙ sym (override_assoc before (decision_at file line (effect i (take (end - i) (drop i upto)))) (last_in effect file (line + 1) (end + 1) (split (drop (end + 1) upto))))
       ∙ ap (λ (a : Option (Decision A)). override a (last_in effect file (line + 1) (end + 1) (split (drop (end + 1) upto)))) (sym q)
 
   pub lines_end : (upto : List ℕ) (line i : ℕ) (before : Option (Decision A)) → length upto ≤ i → override before (last_in effect file line i (split (drop i upto))) ≡ before

@@ -2,32 +2,38 @@
 ghost use Rattle.std.specs.Prelude.{◌≡◌};
 ghost use Rattle.rulefiles.specs.RuleFiles.{ordered_lines};
 ghost use Rattle.rulefiles.specs.Decisions.{override};
+ghost use Rattle.attributelines.specs.AttributeLines.{state_of};
 ghost use Rattle.entries.specs.Entries.{against};
 ghost use Rattle.verdicts.specs.Verdicts.{attribute_state};
-ghost use Rattle.verdicts.specs.inner.Scan.{state_decision_of, attribute_at, last_in_file};
+ghost use Rattle.verdicts.specs.inner.Scan.{state_decision_of, decision_at, attribute_at, last_in_file};
 
 use crate::lines::{content_start, rules_upto};
-use attributelines::{Effect, State, line_effect};
+use answers::DecidedState;
+use attributelines::{Effect, line_effect};
 use entries::component_start;
-use rulefiles::{Place, line_end, line_place};
-
-// What the deciding line gives the attribute: its state, a value counted from the line's start; its place; where it starts in the rule bytes.
-#[derive(Drop)]
-pub struct LineState {
-    pub state: State,
-    pub place: Place,
-    pub start: usize,
-}
+use rulefiles::{line_end, line_place};
 
 // The state that the lines read so far give the attribute.
 #[derive(Drop)]
 pub enum AttributeState {
     Undecided,
-    Decided(LineState),
+    Decided(DecidedState),
 }
 
-// The state after one file more, which starts at `start` of the rules up to its end. A line that gives the attribute no state leaves what is kept where
-// it stands: handed through a function, it would be copied at each line.
+// The state after one line more.
+fn after_line(before: AttributeState, effect: Effect, file: usize, line: usize) -> AttributeState
+    ensures { state_decision_of result ≡ override (state_decision_of before) (decision_at file line (state_of effect)) }
+{
+    match effect {
+        Effect::None => before,
+        Effect::Assigns(state) => AttributeState::Decided(DecidedState {
+            state: state,
+            place: line_place(file, line),
+        }),
+    }
+}
+
+// The state after one file more, which starts at `start` of the rules up to its end.
 fn after_file(
     upto: &[u8],
     start: usize,
@@ -46,14 +52,8 @@ fn after_file(
     let mut line = 1;
     while i < upto.len() {
         let end = line_end(upto, i);
-        let effect = line_effect(&upto[i..end], attribute, rest, component, directory, fold);
-        if let Effect::Assigns(state) = effect {
-            last = AttributeState::Decided(LineState {
-                state: state,
-                place: line_place(file, line),
-                start: i,
-            });
-        }
+        let effect = line_effect(&upto[..end], i, attribute, rest, component, directory, fold);
+        last = after_line(last, effect, file, line);
         i = end + 1;
         line += 1;
     }

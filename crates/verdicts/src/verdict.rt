@@ -21,9 +21,10 @@ pub enum EntryVerdict {
 }
 
 // The verdict after one line more.
-fn after_line(before: EntryVerdict, effect: Effect, place: Place) -> EntryVerdict
-    ensures { verdict_decision_of result ≡ override (verdict_decision_of before) (decision_at place (verdict_of effect)) }
+fn after_line(before: EntryVerdict, effect: Effect, file: usize, line: usize) -> EntryVerdict
+    ensures { verdict_decision_of result ≡ override (verdict_decision_of before) (decision_at file line (verdict_of effect)) }
 {
+    let place = line_place(file, line);
     match effect {
         Effect::None => before,
         Effect::Ignores => EntryVerdict::Ignored(place),
@@ -50,7 +51,7 @@ fn after_file(
     while i < upto.len() {
         let end = line_end(upto, i);
         let effect = line_effect(&upto[i..end], rest, component, directory, fold);
-        last = after_line(last, effect, line_place(file, line));
+        last = after_line(last, effect, file, line);
         i = end + 1;
         line += 1;
     }

@@ -47,7 +47,7 @@ fn add_file(i: usize, files: &mut [u8], used: usize) -> usize {
     if used > end {
         return usize::MAX;
     }
-    if questionrefusals::rules::rules_long(end - used) {
+    if questionrefusals::rules::rules_long(&files[used..end]) {
         messages::about(&name[..n], b"over 65,536 bytes");
         return usize::MAX;
     }

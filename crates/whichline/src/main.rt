@@ -1,5 +1,7 @@
 // Which line decided? Answers, for each path of a listing on standard input, what rule files say of it, and the entry, the file
 // and the line that decided. `whichline --help` says how it is asked.
+#![tactic(auto)]
+
 mod arguments;
 mod asking;
 mod buffers;

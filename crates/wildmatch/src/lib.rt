@@ -1,5 +1,7 @@
 // The matcher of document 01 as it is called from outside: refusals first, then whether the pattern matches the text, or where it is broken.
 // For a user: docs/RULES.md, "Patterns".
+#![tactic(auto)]
+
 ghost use Rattle.std.specs.Prelude.{◌≡◌};
 ghost use Rattle.wildmatch.specs.Answers.{mode_of, Answered, code_of};
 

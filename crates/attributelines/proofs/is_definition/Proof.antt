@@ -1,8 +1,6 @@
 -- `attributelines::is_definition` meets its contract: too short, another first byte, or the five bytes after it.
 use Rattle.attributelines.proofs.MentionLaws.{definition_short, definition_first, definition-rest}
 use borrow.Author.Rules.{rules}
-use Rattle.attributelines.proofs.is_definition.Statement.{statement}
-use Rattle.attributelines.proofs.is_definition.Tie as tie
 
 returns : tie.Need-returns
 returns c = definition_short _ c.if1.true

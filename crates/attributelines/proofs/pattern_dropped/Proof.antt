@@ -1,8 +1,6 @@
 -- `attributelines::pattern_dropped` meets its contract: by the first byte, else a definition.
 use Rattle.attributelines.proofs.MentionLaws.{dropped_empty, dropped_comment, dropped_not, dropped_quote, dropped_definition}
 use borrow.Author.Rules.{rules}
-use Rattle.attributelines.proofs.pattern_dropped.Statement.{statement}
-use Rattle.attributelines.proofs.pattern_dropped.Tie as tie
 
 returns : tie.Need-returns
 returns c = dropped_empty _ c.if1.true

@@ -1,10 +1,9 @@
 -- How a line's tokens are found one after another.
-use Rattle.std.specs.Prelude.{ℕ, ◌+◌, not, cond, List}
+use Rattle.std.specs.Prelude.{ℕ, not, cond, List}
 use Rattle.std.proofs.Math.Option.{Option, none}
 use Rattle.bytestrings.specs.Bytes.{length_until}
 use Rattle.attributelines.specs.AttributeLines.{is_blank, Token, good_names, last_mention}
 use Rattle.attributelines.specs.declared.State.{State}
-use Rattle.attributelines.specs.declared.State.TheVariants.{Set, Unset, Value, Unspecified}
 
 -- how many blanks stand first
 abbrev pub blank_length : List ℕ → ℕ
@@ -17,10 +16,3 @@ token_length s = length_until is_blank s
 -- the state that the mentions of a line give, whose pattern matches
 unfoldable pub mentions_state : List ℕ → List Token → Option State
 mentions_state attribute ws = cond (good_names ws) (last_mention attribute ws) none
-
--- where a state's value ends; 0 where there is none
-abbrev pub value_end : State → ℕ
-value_end Set = 0
-value_end Unset = 0
-value_end (Value v) = v.start + v.length
-value_end Unspecified = 0

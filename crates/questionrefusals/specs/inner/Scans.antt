@@ -1,6 +1,13 @@
 -- What the scan of a file finds.
-use Rattle.std.specs.Prelude.{ℕ, ◌-◌, ◌<◌, ◌≤◌, ◌≡◌, List, get_or}
+use Rattle.std.specs.Prelude.{ℕ, ◌-◌, ◌<◌, ◌≤◌, ◌≡◌, length, get_or}
+use mathlib.Core.List.{List, Memᴰ}
 use Rattle.bytestrings.specs.Text.{newline}
+use Rattle.rulefiles.specs.RuleFiles.{split}
+use Rattle.refusals.specs.Limits.{line_limit}
+
+-- one of a file's lines is over the limit
+unfoldable pub LongIn : List ℕ → Type 0
+LongIn bytes = (l : List ℕ) × Memᴰ l (split bytes) × (line_limit < length l)
 
 -- `next` is a place just after a newline from `at` on and before `end`, or `at` where there is none
 pub record AfterNewline (bytes : List ℕ) (at end next : ℕ) : Type 0 where

@@ -1,13 +1,11 @@
 -- How the lines are read one after another.
-use Rattle.std.specs.Prelude.{ℕ, suc, ◌+◌, ◌^◌, ◌<◌, List, [], ◌∷◌, length, drop}
-use Rattle.std.proofs.Math.Option.{Option, none, some, map}
-use Rattle.rulefiles.specs.declared.Place.{Place}
+use Rattle.std.specs.Prelude.{ℕ, suc, ◌+◌, List, [], ◌∷◌, length, drop}
+use Rattle.std.proofs.Math.Option.{Option, none, some}
 use Rattle.rulefiles.specs.RuleFiles.{split, bom_length}
-use Rattle.rulefiles.specs.Decisions.{Decision, place_at, override}
+use Rattle.rulefiles.specs.Decisions.{Decision, override}
 use Rattle.entries.specs.Entries.{Entry, Subject}
 use Rattle.ignorelines.specs.IgnoreLines.{Verdict, ignored, re_included, line_effect}
-use Rattle.attributelines.specs.AttributeLines.{line_state, in_rules}
-use Rattle.attributelines.specs.inner.Scan.{value_end}
+use Rattle.attributelines.specs.AttributeLines.{line_state}
 use Rattle.attributelines.specs.declared.State.{State}
 use Rattle.answers.specs.declared.DecidedEntry.{DecidedEntry}
 use Rattle.verdicts.specs.declared.topdown.IgnoredParent.{IgnoredParent}
@@ -23,29 +21,20 @@ verdict_decision_of EntryUndecided = none
 verdict_decision_of (Ignored p) = some (record { what = ignored; place = p })
 verdict_decision_of (Reincluded p) = some (record { what = re_included; place = p })
 
--- the state of an attribute, as a decision: a value counted in the rule bytes
+-- the state of an attribute, as a decision
 abbrev pub state_decision_of : AttributeState → Option (Decision State)
 state_decision_of AttributeUndecided = none
-state_decision_of (Decided s) = some (record { what = in_rules s.start s.state; place = s.place })
+state_decision_of (Decided s) = some (record { what = s.state; place = s.place })
 
--- a state whose value ends at a number of 64 bits
-abbrev pub ValueFits : State → Type 0
-ValueFits s = value_end s < 2 ^ 64
-
--- the same of what is decided
-abbrev pub StateFits : Option (Decision State) → Type 0
-StateFits none = Unit {0}
-StateFits (some d) = ValueFits d.what
-
--- the decision of a line at this place
-abbrev pub decision_at : {A : Type 0} → Place → Option A → Option (Decision A)
-decision_at place none = none
-decision_at place (some a) = some (record { what = a; place = place })
+-- the decision of a line with this number
+abbrev pub decision_at : {A : Type 0} → ℕ → ℕ → Option A → Option (Decision A)
+decision_at file line none = none
+decision_at file line (some a) = some (record { what = a; place = record { file = file; line = line } })
 
 -- the last decision from one line of a file on; `effect` is by the line's start and bytes
 abbrev pub last_in : {A : Type 0} → (ℕ → List ℕ → Option A) → ℕ → ℕ → ℕ → List (List ℕ) → Option (Decision A)
 last_in effect file line at [] = none
-last_in effect file line at (l ∷ ls) = override (decision_at (place_at file line) (effect at l)) (last_in effect file (suc line) (at + length l + 1) ls)
+last_in effect file line at (l ∷ ls) = override (decision_at file line (effect at l)) (last_in effect file (suc line) (at + length l + 1) ls)
 
 -- the effect of an ignore line at a place, whatever the place
 unfoldable pub ignore_at : Subject → ℕ → List ℕ → Option Verdict
@@ -53,7 +42,7 @@ ignore_at subject at bytes = line_effect subject bytes
 
 -- the effect of an attribute line at a place
 unfoldable pub attribute_at : Subject → List ℕ → ℕ → List ℕ → Option State
-attribute_at subject attribute at bytes = map (in_rules at) (line_state subject attribute bytes)
+attribute_at subject attribute at bytes = line_state subject attribute at bytes
 
 -- where a file's lines start, after its BOM: the file starts at `start` of the rules up to its end
 unfoldable pub content_start : List ℕ → ℕ → ℕ

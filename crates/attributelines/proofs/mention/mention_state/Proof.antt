@@ -1,94 +1,107 @@
 -- `attributelines::mention::mention_state` meets its contract: by the first byte, and by whether a `=` follows.
-use Prim.Native.Nat.{◌+◌, ◌<◌, ◌^◌}
+use Prim.Native.Nat.{ℕ, ◌+◌, ◌<◌}
 use native.Mathlib.Omega.{arith}
-use mathlib.Core.Path.{ap}
-use borrow.Author.Rules.{rules}
+use mathlib.Core.Path.{◌≡◌, sym, ap}
+use mathlib.Core.List.{List}
 use lib.Dec.{eqb}
-use lib.ListN.{length}
-use Rattle.bytestrings.specs.Text.{char}
-use Rattle.bytestrings.proofs.UntilLaws.{until_fits}
-use Rattle.attributelines.specs.AttributeLines.{Mention}
+use lib.ListN.{length, drop}
+use Rattle.bytestrings.proofs.UntilLaws.{until_within}
+use Rattle.attributelines.specs.AttributeLines.{Mention, name_length}
 use Rattle.attributelines.specs.declared.State.{State}
-use Rattle.attributelines.proofs.MentionLaws.{mention_empty, mention_minus, mention_not, state-set, state_value}
-use Rattle.attributelines.proofs.mention.mention_state.Statement.{statement}
-use Rattle.attributelines.proofs.mention.mention_state.Tie as tie
+use Rattle.attributelines.proofs.MentionLaws.{mention_past, mention_minus, mention_not, state-set, state_value}
+use borrow.Author.Rules.{rules}
+use Rattle.bytestrings.specs.Text.{char}
 
 abbrev state_in : Mention → State
 state_in m = m.state
 
-returns : tie.Need-returns
-returns c = ap state_in (mention_empty _ _ c.if1.true)
+-- a `=` stands within the text
+inside : (s : List ℕ) (i r : ℕ) → i < length s → r ≡ i + name_length (drop i s) → (r ≡ length s → ⊥) → r < length s
+inside s i r h e n = let w = (until_within (λ b. eqb b (char "=")) s i r (omega arith) e).1 in omega arith
 
-shared-slice-read-if2 : tie.Need-shared-slice-read-if2
-shared-slice-read-if2 c = search rules
+returns : tie.Need-returns
+returns c = sym (ap state_in (mention_past c.before.before.args.text.now c.before.before.args.at c.if1.true))
+
+shared-slice-read-b : tie.Need-shared-slice-read-b
+shared-slice-read-b c = search rules
 
 returns-2 : tie.Need-returns-2
-returns-2 c = ap state_in (mention_minus _ _ c.if2.true)
-
-shared-slice-read-if3 : tie.Need-shared-slice-read-if3
-shared-slice-read-if3 c = search rules
+returns-2 c =
+    let at-if1 = c.before.before in
+    let at-start = at-if1.before.before in
+    let a = at-start.args in
+    sym (ap state_in (mention_minus a.text.now a.at at-if1.if1.false c.if2.true))
 
 returns-3 : tie.Need-returns-3
 returns-3 c =
-    let at-if2 = c.before.before in
-    ap state_in (mention_not _ _ at-if2.if2.false c.if3.true)
+    let at-if2 = c.before in
+    let at-if1 = at-if2.before.before in
+    let at-start = at-if1.before.before in
+    let a = at-start.args in
+    sym (ap state_in (mention_not a.text.now a.at at-if1.if1.false at-if2.if2.false c.if3.true))
 
-name-length-requires : tie.Need-name-length-requires
-name-length-requires c κs = search rules
+name-end-requires : tie.Need-name-end-requires
+name-end-requires c κs = search rules
 
 returns-4 : tie.Need-returns-4
 returns-4 c =
-    let at-name-length = c.before in
-    let at-if3 = at-name-length.before in
-    let at-if2 = at-if3.before.before in
-    state-set _ _ at-if2.if2.false at-if3.if3.false _ at-name-length.name-length.ensures c.if4.true
-
--- a `=` stands within the token, whose places fit
-inside : (c : tie.Else4)
-    → let at-if3 = c.before.before in
-    let at-if2 = at-if3.before.before in
+    let at-name-end = c.before in
+    let at-if3 = at-name-end.before in
+    let at-if2 = at-if3.before in
     let at-if1 = at-if2.before.before in
     let at-start = at-if1.before.before in
-    (c.before.name-length.result < length at-start.args.token.now) × (at-start.args.start + length at-start.args.token.now < 2 ^ 64)
-inside c =
-    let at-name-length = c.before in
-    let at-if2 = at-name-length.before.before.before in
+    let a = at-start.args in
+    state-set a.text.now a.at at-name-end.name_end.result at-if1.if1.false at-if2.if2.false at-if3.if3.false at-name-end.name_end.ensures c.if4.true
+
+add-t5 : tie.Need-overflow-add-t5
+add-t5 c =
+    let at-name-end = c.before in
+    let at-if2 = at-name-end.before.before in
     let at-if1 = at-if2.before.before in
     let at-start = at-if1.before.before in
-    (omega (arith, at-name-length.name-length.ensures, c.if4.false, until_fits (λ b. eqb b (char "=")) at-start.args.token.now), at-start.requires)
+    let a = at-start.args in
+    omega (arith, inside a.text.now a.at at-name-end.name_end.result at-if1.if1.false at-name-end.name_end.ensures c.if4.false)
 
-add-t4 : tie.Need-overflow-add-t4
-add-t4 c = omega (arith, (inside c).0, (inside c).1)
+add-t10 : tie.Need-overflow-add-t10
+add-t10 c =
+    let at-name-end = c.before in
+    let at-if2 = at-name-end.before.before in
+    let at-if1 = at-if2.before.before in
+    let at-start = at-if1.before.before in
+    let a = at-start.args in
+    omega (arith, inside a.text.now a.at at-name-end.name_end.result at-if1.if1.false at-name-end.name_end.ensures c.if4.false)
 
-add-t9 : tie.Need-overflow-add-t9
-add-t9 c = omega (arith, (inside c).0, (inside c).1)
-
-add-t11 : tie.Need-overflow-add-t11
-add-t11 c = omega (arith, (inside c).0, (inside c).1)
-
-sub-t12 : tie.Need-overflow-sub-t12
-sub-t12 c = omega (arith, (inside c).0)
+sub-t11 : tie.Need-overflow-sub-t11
+sub-t11 c =
+    let at-name-end = c.before in
+    let at-if2 = at-name-end.before.before in
+    let at-if1 = at-if2.before.before in
+    let at-start = at-if1.before.before in
+    let a = at-start.args in
+    omega (arith, inside a.text.now a.at at-name-end.name_end.result at-if1.if1.false at-name-end.name_end.ensures c.if4.false)
 
 returns-5 : tie.Need-returns-5
 returns-5 c =
-    let at-name-length = c.before in
-    let at-if3 = at-name-length.before in
-    let at-if2 = at-if3.before.before in
-    state_value _ _ at-if2.if2.false at-if3.if3.false _ at-name-length.name-length.ensures (inside c).0
+    let at-name-end = c.before in
+    let at-if3 = at-name-end.before in
+    let at-if2 = at-if3.before in
+    let at-if1 = at-if2.before.before in
+    let at-start = at-if1.before.before in
+    let a = at-start.args in
+    state_value a.text.now a.at at-name-end.name_end.result at-if1.if1.false at-if2.if2.false at-if3.if3.false at-name-end.name_end.ensures
+    (inside a.text.now a.at at-name-end.name_end.result at-if1.if1.false at-name-end.name_end.ensures c.if4.false)
 
 pub mention-state-spec : {M : Type 1} → statement M
 mention-state-spec =
     tie.close
     (tie.spec
     returns
-    shared-slice-read-if2
+    shared-slice-read-b
     returns-2
-    shared-slice-read-if3
     returns-3
-    name-length-requires
+    name-end-requires
     returns-4
-    add-t4
-    add-t9
-    add-t11
-    sub-t12
+    add-t5
+    add-t10
+    sub-t11
     returns-5)

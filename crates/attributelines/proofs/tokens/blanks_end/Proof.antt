@@ -7,8 +7,6 @@ use lib.ListN.{length, drop}
 use Rattle.bytestrings.proofs.UntilLaws.{until_stop, until_more, until_past}
 use Rattle.attributelines.specs.AttributeLines.{is_blank}
 use Rattle.attributelines.specs.inner.Scan.{blank_length}
-use Rattle.attributelines.proofs.tokens.blanks_end.Statement.{statement}
-use Rattle.attributelines.proofs.tokens.blanks_end.Tie as tie
 
 abbrev invariant-loop : tie.invariant-loop
 invariant-loop text at i₀ i = at + blank_length (drop at text) ≡ i + blank_length (drop i text)

@@ -1,8 +1,6 @@
 -- `attributelines::tokens::is_blank` meets its contract: the three blanks.
 use borrow.Author.Tests.{eq-eqb, ne_eqb}
 use Rattle.attributelines.specs.AttributeLines.{is_blank}
-use Rattle.attributelines.proofs.tokens.is_blank.Statement.{statement}
-use Rattle.attributelines.proofs.tokens.is_blank.Tie as tie
 
 returns : tie.Need-returns
 unfolding is_blank

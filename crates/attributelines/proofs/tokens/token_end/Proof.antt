@@ -6,8 +6,6 @@ use lib.ListN.{length, drop}
 use Rattle.bytestrings.proofs.UntilLaws.{until_stop, until_more, until_past}
 use Rattle.attributelines.specs.AttributeLines.{is_blank}
 use Rattle.attributelines.specs.inner.Scan.{token_length}
-use Rattle.attributelines.proofs.tokens.token_end.Statement.{statement}
-use Rattle.attributelines.proofs.tokens.token_end.Tie as tie
 
 abbrev invariant-loop : tie.invariant-loop
 invariant-loop text at i₀ i = at + token_length (drop at text) ≡ i + token_length (drop i text)

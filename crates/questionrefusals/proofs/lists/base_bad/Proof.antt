@@ -2,8 +2,6 @@
 use Rattle.questionrefusals.proofs.ListLaws.{base_top, base_past, base-within}
 use Rattle.bytestrings.proofs.BoolLaws.{yes_iff, no_iff}
 use borrow.Author.Rules.{rules}
-use Rattle.questionrefusals.proofs.lists.base_bad.Statement.{statement}
-use Rattle.questionrefusals.proofs.lists.base_bad.Tie as tie
 
 returns : tie.Need-returns
 returns c = no_iff (base_top c.before.args.path.now c.before.args.base c.if1.true)

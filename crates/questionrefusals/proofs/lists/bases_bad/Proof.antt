@@ -8,8 +8,6 @@ use borrow.Author.Rules.{rules}
 use Prim.Native.Nat.{◌-◌}
 use native.Mathlib.Omega.{arith}
 use lib.ListN.{length, drop}
-use Rattle.questionrefusals.proofs.lists.bases_bad.Statement.{statement}
-use Rattle.questionrefusals.proofs.lists.bases_bad.Tie as tie
 
 abbrev invariant-loop : tie.invariant-loop
 invariant-loop path bases i₀ i = BaseMisplaced path bases ↔ BaseMisplaced path (drop i bases)

@@ -6,8 +6,6 @@ use borrow.Author.Rules.{rules}
 use Prim.Native.Nat.{◌-◌}
 use native.Mathlib.Omega.{arith}
 use lib.ListN.{length}
-use Rattle.questionrefusals.proofs.lists.ends_bad.Statement.{statement}
-use Rattle.questionrefusals.proofs.lists.ends_bad.Tie as tie
 
 abbrev invariant-loop : tie.invariant-loop
 invariant-loop ends n last₀ i₀ last i = EndsSo ends last i

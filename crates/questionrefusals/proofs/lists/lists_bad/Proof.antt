@@ -4,8 +4,6 @@ use Rattle.questionrefusals.proofs.ListLaws.{lists-ends, lists-bases}
 use Rattle.bytestrings.proofs.BoolLaws.{yes_iff, not_if_false}
 use mathlib.Core.Logic.{inl, inr}
 use borrow.Author.Rules.{rules}
-use Rattle.questionrefusals.proofs.lists.lists_bad.Statement.{statement}
-use Rattle.questionrefusals.proofs.lists.lists_bad.Tie as tie
 
 returns : tie.Need-returns
 unfolding BadLists

@@ -9,8 +9,6 @@ use mathlib.Core.Path.{refl}
 use mathlib.Core.Logic.{inl, inr}
 use Rattle.attributenames.specs.Names.{BadName}
 use borrow.Author.Rules.{rules}
-use Rattle.questionrefusals.proofs.lowest.attribute_refusal.Statement.{statement}
-use Rattle.questionrefusals.proofs.lowest.attribute_refusal.Tie as tie
 
 lent-refusal-requires : tie.Need-lent-refusal-requires
 lent-refusal-requires c κs = search rules

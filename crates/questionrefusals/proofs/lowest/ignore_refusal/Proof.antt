@@ -8,8 +8,6 @@ use Rattle.questionrefusals.proofs.QuestionLaws.{ignore_found}
 use mathlib.Core.Path.{refl}
 use mathlib.Core.Logic.{inl, inr}
 use borrow.Author.Rules.{rules}
-use Rattle.questionrefusals.proofs.lowest.ignore_refusal.Statement.{statement}
-use Rattle.questionrefusals.proofs.lowest.ignore_refusal.Tie as tie
 
 lent-refusal-requires : tie.Need-lent-refusal-requires
 lent-refusal-requires c κs = search rules

@@ -1,11 +1,9 @@
--- `questionrefusals::lowest::lent_refusal` meets its contract: the tests come in the table's order.
+-- `refusals::lowest::lent_refusal` meets its contract: the tests come in the table's order.
 use Rattle.questionrefusals.specs.inner.Checks.{LentFirstHolding}
 use Rattle.bytestrings.proofs.BoolLaws.{not_if_false}
 use mathlib.Core.Path.{refl}
 use mathlib.Core.Logic.{inl, inr}
 use borrow.Author.Rules.{rules}
-use Rattle.questionrefusals.proofs.lowest.lent_refusal.Statement.{statement}
-use Rattle.questionrefusals.proofs.lowest.lent_refusal.Tie as tie
 
 path-bad-requires : tie.Need-path-bad-requires
 path-bad-requires c κs = search rules
@@ -62,14 +60,14 @@ returns-4 c =
       ),
     )
 
-long-line-requires : tie.Need-long-line-requires
-long-line-requires c κs = search rules
+line-long-requires : tie.Need-line-long-requires
+line-long-requires c κs = search rules
 
 returns-5 : tie.Need-returns-5
 unfolding LentFirstHolding
 returns-5 c =
-    let at-long-line = c.before in
-    let at-if4 = at-long-line.before in
+    let at-line-long = c.before in
+    let at-if4 = at-line-long.before in
     let at-holds-zero = at-if4.before in
     let at-if3 = at-holds-zero.before in
     let at-rules-long = at-if3.before in
@@ -83,7 +81,7 @@ returns-5 c =
         not_if_false at-lists-bad.lists-bad.ensures at-if2.if2.false,
         inr (
           not_if_false at-rules-long.rules-long.ensures at-if3.if3.false,
-          inr (not_if_false at-holds-zero.holds-zero.ensures at-if4.if4.false, inl (refl, at-long-line.long-line.ensures.0 c.if5.true)),
+          inr (not_if_false at-holds-zero.holds-zero.ensures at-if4.if4.false, inl (refl, at-line-long.line-long.ensures.0 c.if5.true)),
         ),
       ),
     )
@@ -91,8 +89,8 @@ returns-5 c =
 returns-6 : tie.Need-returns-6
 unfolding LentFirstHolding
 returns-6 c =
-    let at-long-line = c.before in
-    let at-if4 = at-long-line.before in
+    let at-line-long = c.before in
+    let at-if4 = at-line-long.before in
     let at-holds-zero = at-if4.before in
     let at-if3 = at-holds-zero.before in
     let at-rules-long = at-if3.before in
@@ -106,7 +104,7 @@ returns-6 c =
         not_if_false at-lists-bad.lists-bad.ensures at-if2.if2.false,
         inr (
           not_if_false at-rules-long.rules-long.ensures at-if3.if3.false,
-          inr (not_if_false at-holds-zero.holds-zero.ensures at-if4.if4.false, inr (not_if_false at-long-line.long-line.ensures c.if5.false, refl)),
+          inr (not_if_false at-holds-zero.holds-zero.ensures at-if4.if4.false, inr (not_if_false at-line-long.line-long.ensures c.if5.false, refl)),
         ),
       ),
     )
@@ -123,6 +121,6 @@ lent-refusal-spec =
     returns-3
     holds-zero-requires
     returns-4
-    long-line-requires
+    line-long-requires
     returns-5
     returns-6)

@@ -1,12 +1,10 @@
--- `questionrefusals::rules::after_newline` meets its contract. No newline stands between the place reached and the end.
+-- `refusals::rules::after_newline` meets its contract. No newline stands between the place reached and the end.
 use Rattle.questionrefusals.proofs.LongLaws.{newline_other}
 use Prim.Native.Nat.{ℕ, ◌-◌, ◌<◌, ◌≤◌}
 use mathlib.Core.Path.{◌≡◌}
 use native.Mathlib.Omega.{arith}
 use lib.ListN.{get_or}
 use Rattle.bytestrings.specs.Text.{newline}
-use Rattle.questionrefusals.proofs.rules.after_newline.Statement.{statement}
-use Rattle.questionrefusals.proofs.rules.after_newline.Tie as tie
 
 abbrev invariant-loop : tie.invariant-loop
 invariant-loop file at end i₀ i = (at ≤ i) × (i ≤ end) × ((k : ℕ) → k < end → i ≤ k → get_or file k 0 ≡ newline → ⊥)

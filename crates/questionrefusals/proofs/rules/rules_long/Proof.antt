@@ -1,7 +1,5 @@
--- `questionrefusals::rules::rules_long` meets its contract: the test is the condition.
+-- `refusals::rules::rules_long` meets its contract: the test is the condition.
 use borrow.Author.Tests.{ltb-true, lt-ltb}
-use Rattle.questionrefusals.proofs.rules.rules_long.Statement.{statement}
-use Rattle.questionrefusals.proofs.rules.rules_long.Tie as tie
 
 returns : tie.Need-returns
 returns c = (ltb-true _ _, lt-ltb _ _)

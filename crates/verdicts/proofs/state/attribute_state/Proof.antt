@@ -15,8 +15,6 @@ use Rattle.verdicts.specs.Verdicts.{attribute_state}
 use Rattle.verdicts.specs.inner.Scan.{state_decision_of, attribute_at, last_in_file}
 use Rattle.verdicts.proofs.FileLaws.{file_at, file_turn, files_end, bases_end}
 use Rattle.verdicts.proofs.VerdictLaws.{start_fits, entry_of, lines_begin, file-applies, file-passed, attribute_reads}
-use Rattle.verdicts.proofs.state.attribute_state.Statement.{statement}
-use Rattle.verdicts.proofs.state.attribute_state.Tie as tie
 
 abbrev invariant-loop : tie.invariant-loop
 invariant-loop rules ends bases path attribute directory fold at last₀ start₀ file₀ last start file =

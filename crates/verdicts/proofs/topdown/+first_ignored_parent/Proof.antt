@@ -25,7 +25,7 @@ use Rattle.entries.proofs.component_start.Reads as component-start-reads
 use Rattle.verdicts.proofs.topdown.ignored_at.Reads as ignored-at-reads
 use Rattle.verdicts.proofs.verdict.entry_verdict.Reads as entry-verdict-reads
 use Rattle.verdicts.proofs.topdown.+first_ignored_parent.{statement}
-use Rattle.verdicts.proofs.topdown.+first_ignored_parent.Tie.{close}
+use Rattle.classes.specs.Members.{close}
 
 abbrev μ-first-ignored-parent : Measures 4 first-ignored-parent-kinds.ps ℕ
 μ-first-ignored-parent κs a = length a.1.1.1.0.now

@@ -1,4 +1,4 @@
--- `verdicts::verdict::after_file` meets its contract: the decision before a line is overridden by that of the lines from there on.
+-- `questions::verdict::after_file` meets its contract: the decision before a line is overridden by that of the lines from there on.
 use Rattle.verdicts.specs.inner.Scan.{ignore_at, verdict_decision_of, decision_at, last_in, last_in_file}
 use Prim.Native.Nat.{◌+◌, ◌-◌, ◌≤◌}
 use native.Mathlib.Omega.{arith}
@@ -7,14 +7,11 @@ use mathlib.Core.Option.{Option}
 use borrow.Author.Rules.{rules}
 use lib.ListN.{length, drop, length-drop}
 use Rattle.entries.specs.Entries.{against}
-use Rattle.rulefiles.specs.declared.Place.{Place}
 use Rattle.rulefiles.specs.RuleFiles.{split}
-use Rattle.rulefiles.specs.Decisions.{place_at, override}
+use Rattle.rulefiles.specs.Decisions.{override}
 use Rattle.rulefiles.proofs.LineLaws.{line_fits}
-use Rattle.ignorelines.specs.IgnoreLines.{Verdict, verdict_of}
+use Rattle.ignorelines.specs.IgnoreLines.{Verdict}
 use Rattle.verdicts.proofs.ScanLaws.{line_turn, lines_end, file_begin}
-use Rattle.verdicts.proofs.verdict.after_file.Statement.{statement}
-use Rattle.verdicts.proofs.verdict.after_file.Tie as tie
 
 abbrev invariant-loop : tie.invariant-loop
 invariant-loop upto start file rest component directory fold last₀ i₀ line₀ last i line =
@@ -60,43 +57,29 @@ part-line-effect-end c = within c
 line-effect-requires : tie.Need-line-effect-requires invariant-loop decreases-loop
 line-effect-requires c κs = search rules
 
-line-place-requires : tie.Need-line-place-requires invariant-loop decreases-loop
-line-place-requires c κs = search rules
-
 after-line-requires : tie.Need-after-line-requires invariant-loop decreases-loop
 after-line-requires c κs = search rules
 
 add-i : tie.Need-overflow-add-i invariant-loop decreases-loop
-add-i c =
-    let at-line-effect = c.before.before in
-    let at-line-end = at-line-effect.before.before in
-    let at-loop = at-line-end.before.before in
-    let at-shared-slice-known2 = at-loop.before.before.before in
-    let at-start = at-shared-slice-known2.before.before in
-    omega (arith, within at-line-end, at-start.well-formed)
+add-i c = omega (arith, within c.before.before.before)
 
 add-line : tie.Need-overflow-add-line invariant-loop decreases-loop
 add-line c =
-    let at-line-effect = c.before.before in
-    let at-line-end = at-line-effect.before.before in
-    let at-loop-test = at-line-end.before in
+    let at-line-effect-arg = c.before.before in
+    let at-loop-test = at-line-effect-arg.before.before in
     let at-loop = at-loop-test.before in
-    let at-shared-slice-known2 = at-loop.before.before.before in
-    let at-start = at-shared-slice-known2.before.before in
-    omega (arith, at-loop.loop.invariant.0, at-loop-test.loop-test.true, at-start.well-formed)
+    omega (arith, at-loop.loop.invariant.0, at-loop-test.loop-test.true)
 
 loop-less : tie.Need-loop-smaller invariant-loop decreases-loop
 loop-less c =
-    let at-line-effect = c.before.before in
-    let at-line-end = at-line-effect.before.before in
+    let at-line-end = c.before.before.before in
     let at-loop-test = at-line-end.before in
     omega (arith, at-loop-test.loop-test.true, at-line-end.line-end.ensures)
 
 loop-again : tie.Need-loop-preserved invariant-loop decreases-loop
 unfolding ignore_at
 loop-again c =
-    let at-line-place = c.before in
-    let at-line-effect = at-line-place.before in
+    let at-line-effect = c.before in
     let at-line-end = at-line-effect.before.before in
     let at-loop-test = at-line-end.before in
     let at-loop = at-loop-test.before in
@@ -110,8 +93,7 @@ loop-again c =
           (verdict_decision_of c.after_Line.result)
           at-loop-test.loop-test.true at-line-end.line-end.ensures
           (c.after_Line.ensures
-          ∙ ap (λ (p : Place). override (verdict_decision_of at-loop.loop.last) (decision_at p (verdict_of at-line-effect.line_effect.result))) at-line-place.line-place.ensures
-          ∙ ap (λ (o : Option Verdict). override (verdict_decision_of at-loop.loop.last) (decision_at (place_at a.file at-loop.loop.line) o)) at-line-effect.line_effect.ensures),
+          ∙ ap (λ (o : Option Verdict). override (verdict_decision_of at-loop.loop.last) (decision_at a.file at-loop.loop.line o)) at-line-effect.line_effect.ensures),
     )
 
 returns : tie.Need-returns invariant-loop decreases-loop
@@ -136,7 +118,6 @@ after-file-spec =
     part-line-effect-start
     part-line-effect-end
     line-effect-requires
-    line-place-requires
     after-line-requires
     add-i
     add-line

@@ -1,7 +1,5 @@
--- `verdicts::verdict::after_line` meets its contract: a line that has an effect overrides what was decided before.
+-- `questions::verdict::after_line` meets its contract: a line that has an effect overrides what was decided before.
 use borrow.Author.Rules.{rules}
-use Rattle.verdicts.proofs.verdict.after_line.Statement.{statement}
-use Rattle.verdicts.proofs.verdict.after_line.Tie as tie
 
 enum_told : tie.Need-enum-told
 enum_told c = search rules

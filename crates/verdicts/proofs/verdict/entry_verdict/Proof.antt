@@ -15,8 +15,6 @@ use Rattle.verdicts.specs.Verdicts.{verdict}
 use Rattle.verdicts.specs.inner.Scan.{verdict_decision_of, ignore_at, last_in_file}
 use Rattle.verdicts.proofs.FileLaws.{file_at, file_turn, files_end, bases_end}
 use Rattle.verdicts.proofs.VerdictLaws.{start_fits, entry_of, lines_begin, file-applies, file-passed, ignore_reads}
-use Rattle.verdicts.proofs.verdict.entry_verdict.Statement.{statement}
-use Rattle.verdicts.proofs.verdict.entry_verdict.Tie as tie
 
 abbrev invariant-loop : tie.invariant-loop
 invariant-loop rules ends bases entry directory fold at last₀ start₀ file₀ last start file =

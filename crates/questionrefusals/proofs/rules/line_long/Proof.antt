@@ -1,5 +1,6 @@
--- `questionrefusals::rules::long_line` meets its contract. The files not yet passed decide.
-use Rattle.questionrefusals.specs.Conditions.{HasLongLine, LongLine}
+-- `refusals::rules::line_long` meets its contract. The files not yet passed decide.
+use Rattle.questionrefusals.specs.Conditions.{LongLine}
+use Rattle.questionrefusals.specs.inner.Scans.{LongIn}
 use Rattle.questionrefusals.proofs.LongLaws.{LongFiles, files_begin, files_past, files_bare, file_long, file_fine}
 use Rattle.bytestrings.proofs.BoolLaws.{yes_iff, no_iff, not_if_false}
 use Rattle.rulefiles.specs.RuleFiles.{files_from}
@@ -11,8 +12,6 @@ use borrow.Author.Rules.{rules}
 use Prim.Native.Nat.{ℕ, ◌-◌}
 use native.Mathlib.Omega.{arith}
 use lib.ListN.{length, drop}
-use Rattle.questionrefusals.proofs.rules.long_line.Statement.{statement}
-use Rattle.questionrefusals.proofs.rules.long_line.Tie as tie
 
 abbrev invariant-loop : tie.invariant-loop
 invariant-loop rules ends bases start₀ i₀ start i = LongLine rules ends bases ↔ LongFiles (files_from i start rules (drop i ends) (drop i bases))
@@ -41,20 +40,20 @@ shared-slice-read-end c = omega arith
 file-part-requires : tie.Need-file-part-requires invariant-loop decreases-loop
 file-part-requires c κs = search rules
 
-has-long-line-requires : tie.Need-has-long-line-requires invariant-loop decreases-loop
-has-long-line-requires c κs = search rules
+long-in-requires : tie.Need-long-in-requires invariant-loop decreases-loop
+long-in-requires c κs = search rules
 
 returns-2 : tie.Need-returns-2 invariant-loop decreases-loop
 returns-2 c =
-    let at-has-long-line = c.before in
-    let at-file-part = at-has-long-line.before in
+    let at-long-in = c.before in
+    let at-file-part = at-long-in.before in
     let at-if1 = at-file-part.before.before in
     let at-loop-test = at-if1.before in
     let at-loop = at-loop-test.before in
     let at-shared-slice-known2 = at-loop.before.before in
     let at-start = at-shared-slice-known2.before.before in
     yes_iff (at-loop.loop.invariant.1 (file_long at-start.args.rules.now at-start.args.ends.now at-start.args.bases.now at-loop.loop.start at-loop.loop.i
-    at-loop-test.loop-test.true at-if1.if1.false (subst (λ (d : List ℕ). HasLongLine d) at-file-part.file-part.ensures (at-has-long-line.has-long-line.ensures.0 c.if2.true))))
+    at-loop-test.loop-test.true at-if1.if1.false (subst (λ (d : List ℕ). LongIn d) at-file-part.file-part.ensures (at-long-in.long-in.ensures.0 c.if2.true))))
 
 add-i : tie.Need-overflow-add-i invariant-loop decreases-loop
 add-i c = omega arith
@@ -64,8 +63,8 @@ loop-less c = omega arith
 
 loop-again : tie.Need-loop-preserved invariant-loop decreases-loop
 loop-again c =
-    let at-has-long-line = c.before in
-    let at-file-part = at-has-long-line.before in
+    let at-long-in = c.before in
+    let at-file-part = at-long-in.before in
     let at-if1 = at-file-part.before.before in
     let at-loop-test = at-if1.before in
     let at-loop = at-loop-test.before in
@@ -73,7 +72,7 @@ loop-again c =
     let at-start = at-shared-slice-known2.before.before in
     Iff.trans at-loop.loop.invariant (file_fine at-start.args.rules.now at-start.args.ends.now at-start.args.bases.now at-loop.loop.start at-loop.loop.i
     at-loop-test.loop-test.true at-if1.if1.false
-    (λ h. not_if_false at-has-long-line.has-long-line.ensures c.if2.false (subst (λ (d : List ℕ). HasLongLine d) (sym at-file-part.file-part.ensures) h)))
+    (λ h. not_if_false at-long-in.long-in.ensures c.if2.false (subst (λ (d : List ℕ). LongIn d) (sym at-file-part.file-part.ensures) h)))
 
 returns-3 : tie.Need-returns-3 invariant-loop decreases-loop
 returns-3 c =
@@ -83,8 +82,8 @@ returns-3 c =
     no_iff (λ b. files_past at-start.args.rules.now at-start.args.ends.now at-start.args.bases.now at-loop.loop.start at-loop.loop.i c.loop-test.false
     (at-loop.loop.invariant.0 b))
 
-pub long-line-spec : {M : Type 1} → statement M
-long-line-spec =
+pub line-long-spec : {M : Type 1} → statement M
+line-long-spec =
     tie.close
     (tie.spec
     invariant-loop
@@ -94,7 +93,7 @@ long-line-spec =
     mul-end
     shared-slice-read-end
     file-part-requires
-    has-long-line-requires
+    long-in-requires
     returns-2
     add-i
     loop-less

@@ -1,5 +1,5 @@
--- `questionrefusals::rules::has_long_line` meets its contract. The lines from `at` on decide.
-use Rattle.questionrefusals.specs.Conditions.{HasLongLine}
+-- `refusals::rules::long_in` meets its contract. The lines from `at` on decide.
+use Rattle.questionrefusals.specs.inner.Scans.{LongIn}
 use Rattle.questionrefusals.proofs.LongLaws.{long_over, long_here, long_skip}
 use Rattle.bytestrings.proofs.BoolLaws.{yes_iff, no_iff}
 use mathlib.Core.Logic.Iff
@@ -7,11 +7,9 @@ use mathlib.Core.Logic.{◌↔◌}
 use Prim.Native.Nat.{◌-◌, ◌≤◌}
 use native.Mathlib.Omega.{arith}
 use lib.ListN.{length, drop}
-use Rattle.questionrefusals.proofs.rules.has_long_line.Statement.{statement}
-use Rattle.questionrefusals.proofs.rules.has_long_line.Tie as tie
 
 abbrev invariant-loop : tie.invariant-loop
-invariant-loop file at₀ at = (at ≤ length file) × (HasLongLine file ↔ HasLongLine (drop at file))
+invariant-loop file at₀ at = (at ≤ length file) × (LongIn file ↔ LongIn (drop at file))
 
 abbrev decreases-loop : tie.decreases-loop
 decreases-loop file at₀ at = length file - at
@@ -53,8 +51,8 @@ loop-again c =
 returns-2 : tie.Need-returns-2 invariant-loop decreases-loop
 returns-2 c = no_iff (λ b. long_over _ _ c.before.loop.invariant.0 c.loop-test.false (c.before.loop.invariant.1.0 b))
 
-pub has-long-line-spec : {M : Type 1} → statement M
-has-long-line-spec =
+pub long-in-spec : {M : Type 1} → statement M
+long-in-spec =
     tie.close
     (tie.spec
     invariant-loop

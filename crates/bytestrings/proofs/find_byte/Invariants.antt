@@ -1,0 +1,16 @@
+-- `bytestrings::find_byte` meets its contract: the next b from the start on is the next from the place reached on.
+use Prim.Native.Nat.{◌+◌, ◌-◌}
+use mathlib.Core.Path.{◌≡◌, refl, sym, ◌∙◌}
+use borrow.Author.Rules.{rules}
+use borrow.Author.Tests.{eq-eqb, ne_eqb}
+use lib.Dec.{eqb}
+use lib.ListN.{length, drop}
+use Rattle.bytestrings.specs.Bytes.{length_until}
+use Rattle.bytestrings.proofs.UntilLaws.{until_stop, until_more, until_past}
+use Rattle.bytestrings.proofs.find_byte.Given as goal
+
+abbrev pub invariant-loop-i : goal.invariant-loop-i
+invariant-loop-i l = l.at + length_until (λ x. eqb x l.b) (drop l.at l.bytes) ≡ l.i + length_until (λ x. eqb x l.b) (drop l.i l.bytes)
+
+abbrev pub decreases-loop-i : goal.decreases-loop-i
+decreases-loop-i l = length l.bytes - l.i
