@@ -19,7 +19,7 @@ pub fn append(out: &mut [u8], at: usize, s: &[u8]) -> usize
     if s.len() > out.len() - at {
         return at;
     }
-    bytes::copy(s, &mut out[at..]);
+    out[at..at + s.len()].copy_from_slice(s);
     at + s.len()
 }
 
