@@ -1,9 +1,9 @@
 use Rattle.bytestrings.proofs.ByteInLaws.{Scanned, scanned_begin, scanned_here, scanned_other, scanned_end}
 use Rattle.bytestrings.specs.inner.Places.{Zero}
-use mathlib.Core.Logic.{⊎_elim}
 use Prim.Native.Nat.{◌+◌, ◌-◌, ◌≤◌}
 use native.Mathlib.Omega.{arith}
 use Rattle.refusals.proofs.zero_in.Goals as goal
+use Rattle.refusals.proofs.zero_in.Goals.{then-bytes-i-eq0, else-bytes-i-eq0}
 
 pub loop-j-init : goal.loop-j-init
 loop-j-init c = (omega arith, scanned_begin Zero _ _)
@@ -24,10 +24,7 @@ pub loop-j-preserved : goal.loop-j-preserved
 loop-j-preserved c =
     let at = c.loop-j.invariant in (
       omega (arith, at.0),
-      ⊎_elim
-          (λ w. scanned_here Zero _ _ _ _ w.0.taken w.1)
-          (λ w. scanned_other Zero _ _ _ _ _ w.0.left at.1 w.1)
-          c.if-bytes-i-eq0.branch,
+      elim c.if-bytes-i-eq0.branch [ then-bytes-i-eq0 w ↦ scanned_here Zero _ _ _ _ w.if-bytes-i-eq0.true w.found-is | else-bytes-i-eq0 w ↦ scanned_other Zero _ _ _ _ _ w.if-bytes-i-eq0.false at.1 w.found-is ],
     )
 
 pub returns : goal.returns

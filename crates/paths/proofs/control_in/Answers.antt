@@ -1,0 +1,61 @@
+use Rattle.bytestrings.proofs.ByteInLaws.{Scanned, scanned_begin, scanned_here, scanned_other, scanned_end, Either, first_in, second_in}
+use mathlib.Core.Path.{◌≡◌}
+use mathlib.Core.Logic.{inl, inr, ⊎_elim}
+use Prim.Native.Nat.{ℕ, ◌+◌, ◌-◌, ◌<◌, ◌≤◌}
+use native.Mathlib.Omega.{arith}
+use Rattle.paths.specs.Paths.{ControlByte}
+use Rattle.paths.proofs.control_in.Invariants.{Low, Delete}
+use Rattle.paths.proofs.control_in.Goals as goal
+use Rattle.paths.proofs.control_in.Goals.{then-path-i-lt-CONTROL_END, else-path-i-lt-CONTROL_END, then-path-i-eq-DELETE, else-path-i-eq-DELETE}
+
+low-or-delete : Either ControlByte Low Delete
+low-or-delete b =
+    (⊎_elim (λ l. inl (omega (arith, l))) (λ e. inr (omega (arith, e))), ⊎_elim (λ l. inl (omega (arith, l))) (λ e. inr (omega (arith, e))))
+
+pub loop-j-init : goal.loop-j-init
+loop-j-init c = (omega arith, scanned_begin Low _ _, scanned_begin Delete _ _)
+
+pub overflow_add-i : goal.overflow_add-i
+overflow_add-i c = omega arith
+
+pub bounds-path-i : goal.bounds-path-i
+bounds-path-i c = omega arith
+
+pub overflow_add-i-in-loop-j : goal.overflow_add-i-in-loop-j
+overflow_add-i-in-loop-j c = omega arith
+
+pub bounds-path-i-in-loop-j : goal.bounds-path-i-in-loop-j
+bounds-path-i-in-loop-j c = omega arith
+
+pub overflow_add-j : goal.overflow_add-j
+overflow_add-j c = omega arith
+
+pub loop-j-smaller : goal.loop-j-smaller
+loop-j-smaller c = omega arith
+
+pub loop-j-preserved : goal.loop-j-preserved
+loop-j-preserved c =
+    let at = c.loop-j.invariant in (
+      omega (arith, at.0),
+      elim c.if-path-i-lt-CONTROL_END.branch [
+        then-path-i-lt-CONTROL_END w ↦ scanned_here Low _ _ _ _ (omega arith) w.low-is
+        | else-path-i-lt-CONTROL_END w ↦ scanned_other Low _ _ _ _ _ (λ l. absurd (omega (arith, l))) at.1 w.low-is
+      ],
+      elim c.if-path-i-eq-DELETE.branch [
+        then-path-i-eq-DELETE w ↦ scanned_here Delete _ _ _ _ (omega arith) w.delete-is
+        | else-path-i-eq-DELETE w ↦ scanned_other Delete _ _ _ _ _ (λ e. absurd (omega (arith, e))) at.2 w.delete-is
+      ],
+    )
+
+pub returns-then-low : goal.returns-then-low
+returns-then-low c =
+    let at = c.loop-j.invariant in
+    let low = scanned_end Low _ _ _ _ _ at.1 at.0 c.loop-j-test.false in
+    first_in ControlByte Low Delete _ _ _ _ low-or-delete low c.if-low.true
+
+pub returns-else-low : goal.returns-else-low
+returns-else-low c =
+    let at = c.loop-j.invariant in
+    let low = scanned_end Low _ _ _ _ _ at.1 at.0 c.loop-j-test.false in
+    let delete = scanned_end Delete _ _ _ _ _ at.2 at.0 c.loop-j-test.false in
+    second_in ControlByte Low Delete _ _ _ _ _ low-or-delete low c.if-low.false delete
