@@ -70,6 +70,7 @@ fn is_plain(s: &[u8]) -> bool
 }
 
 // The letter that stands for a byte after a `\`; 0 where there is none.
+#[tactic(auto, unfolding(crate::specs::Places::letter_of))]
 fn letter(b: u8) -> u8
     ensures { result ≡ letter_of b }
 {

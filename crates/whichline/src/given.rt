@@ -52,7 +52,11 @@ fn add_file(rt: HostRuntime, i: usize, files: &mut [u8], used: usize) -> usize {
         return usize::MAX;
     }
     if end == files.len() {
-        messages::about(rt, &name[..n], b"with the files before it, over 262,144 bytes");
+        messages::about(
+            rt,
+            &name[..n],
+            b"with the files before it, over 262,144 bytes",
+        );
         return usize::MAX;
     }
     end
@@ -302,7 +306,16 @@ pub fn take_all(
     let mut turns = n;
     while turns > 0 && g.right {
         turns -= 1;
-        g = take_next(rt, n, g, files, file_ends, directories, directory_ends, names);
+        g = take_next(
+            rt,
+            n,
+            g,
+            files,
+            file_ends,
+            directories,
+            directory_ends,
+            names,
+        );
     }
     not_none(rt, g)
 }

@@ -171,12 +171,7 @@ pub fn read_more(rt: HostRuntime, buf: &mut [u8], u: Unread) -> Unread
         messages::about(rt, b"standard input", b"no room to read more");
         return unreadable();
     }
-    let n = reading::read_some(
-        rt,
-        &mut rt.stdin(),
-        b"standard input",
-        &mut buf[have..],
-    );
+    let n = reading::read_some(rt, &mut rt.stdin(), b"standard input", &mut buf[have..]);
     if n > buf.len() - have {
         return unreadable();
     }

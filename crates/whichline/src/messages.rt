@@ -117,6 +117,7 @@ pub fn failed(rt: HostRuntime, what: &[u8], e: Error) {
 }
 
 // A refusal in words, as far as this program can get it: every file that is lent stands above the path.
+#[tactic(auto, unfolding(crate::specs::Places::reason_length))]
 pub fn reason(number: u8, out: &mut [u8], at: usize) -> usize
     ensures value { result ≡ after (length out.old) at (reason_length number) }
     ensures onward { Onward out.old at result }

@@ -21,13 +21,7 @@ pub fn read_some<R: Read>(rt: HostRuntime, from: &mut R, what: &[u8], part: &mut
 
 // Reads a file to its end, behind the `used` bytes of a buffer, and answers where it ends there: the buffer's length if that is
 // full, the largest number if a read failed, which is said of the file's name.
-fn read_behind(
-    rt: HostRuntime,
-    file: &mut File,
-    name: &[u8],
-    buf: &mut [u8],
-    used: usize,
-) -> usize
+fn read_behind(rt: HostRuntime, file: &mut File, name: &[u8], buf: &mut [u8], used: usize) -> usize
     ensures { BehindOrFailed used result buf.new }
 {
     let mut at = used;

@@ -90,7 +90,9 @@ pub fn append_ignore(
 {
     match answer {
         IgnoreAnswer::Undecided => append(out, at, b"nothing"),
-        IgnoreAnswer::Ignored(d) => append_decided(rt, out, at, b"ignored", d, line, numbers, names),
+        IgnoreAnswer::Ignored(d) => append_decided(
+            rt, out, at, b"ignored", d, line, numbers, names,
+        ),
         IgnoreAnswer::Reincluded(d) => append_decided(
             rt,
             out,
