@@ -79,7 +79,13 @@ fn differs(
     let mut out = io::buffer();
     let n = written::matched(answer(pattern, text, flags, lenient), &mut out);
     if n > 4096 {
-        report::difference(rt, label, flags, expected, b"an answer too long to be written");
+        report::difference(
+            rt,
+            label,
+            flags,
+            expected,
+            b"an answer too long to be written",
+        );
         return true;
     }
     if is_expected(expected, i, &out[0..n]) {
@@ -90,7 +96,14 @@ fn differs(
 }
 
 // How many of the four answers differ.
-fn count_differing(rt: HostRuntime, label: &[u8], pattern: &[u8], text: &[u8], expected: &[u8], lenient: bool) -> u64
+fn count_differing(
+    rt: HostRuntime,
+    label: &[u8],
+    pattern: &[u8],
+    text: &[u8],
+    expected: &[u8],
+    lenient: bool,
+) -> u64
     ensures { result ≤ 4 }
 {
     let mut n: u64 = 0;
@@ -130,7 +143,14 @@ fn run_decoded(
     }
 }
 
-fn run_fields(rt: HostRuntime, label: &[u8], pattern: &[u8], text: &[u8], expected: &[u8], lenient: bool) -> Outcome
+fn run_fields(
+    rt: HostRuntime,
+    label: &[u8],
+    pattern: &[u8],
+    text: &[u8],
+    expected: &[u8],
+    lenient: bool,
+) -> Outcome
     ensures { Answers 4 result }
 {
     if !is_expectation(expected) {
@@ -140,7 +160,16 @@ fn run_fields(rt: HostRuntime, label: &[u8], pattern: &[u8], text: &[u8], expect
     let mut text_bytes = io::buffer();
     let p = fields::decode(pattern, &mut pattern_bytes);
     let t = fields::decode(text, &mut text_bytes);
-    run_decoded(rt, label, &pattern_bytes, p, &text_bytes, t, expected, lenient)
+    run_decoded(
+        rt,
+        label,
+        &pattern_bytes,
+        p,
+        &text_bytes,
+        t,
+        expected,
+        lenient,
+    )
 }
 
 // Takes a row apart at its first three tabs and runs it. Where `lenient`, it reads broken as no match.
