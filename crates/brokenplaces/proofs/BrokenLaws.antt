@@ -14,7 +14,7 @@ use lib.Seq.{drop-nil, drop-cons, drop-drop}
 use borrow.Author.Tests.{eqb-true, eq-eqb, ne_eqb}
 use Rattle.bytestrings.specs.Text.{char}
 use Rattle.classes.specs.Members.{Class, read_class}
-use Rattle.brokenplaces.specs.inner.ClassSizes.{class_size}
+use Rattle.brokenplaces.specs.Sizes.{class_size}
 use Rattle.classes.proofs.ClassLaws.{class_size_lem}
 use Rattle.bytestrings.proofs.SliceLaws.{from, from-drop, length_from, get_or-from}
 use Rattle.patterns.proofs.ReadLaws.{Sized, by_cases, item_sized}
