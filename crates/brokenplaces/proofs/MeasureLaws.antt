@@ -18,7 +18,8 @@ use Rattle.classes.proofs.SizeLaws.{Within, next_within, Ended, members-ended}
 use Rattle.classes.proofs.ScanLaws.{longer_by, longer_zero, with_member, members-member, members-broken}
 use Rattle.classes.proofs.ClassLaws.{start_of, start-within, read_start}
 use Rattle.classes.specs.Members.{Member, Step, close, broken, member, single, until_close, name_at, bracket_at, next_member, Members, members, Class, class_of, not_sign, read_class}
-use Rattle.brokenplaces.specs.inner.ClassSizes.{class_size, Sized, members_size, starts_name, NextClose}
+use Rattle.brokenplaces.specs.inner.ClassSizes.{Sized, members_size, starts_name, NextClose}
+use Rattle.brokenplaces.specs.Sizes.{class_size}
 
 -- What stands next, with `[:` and without.
 

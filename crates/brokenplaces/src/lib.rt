@@ -8,7 +8,7 @@ ghost use Rattle.brokenplaces.specs.inner.ItemSizes.{may_break, first_size};
 
 mod sizes;
 
-use sizes::class_size;
+pub use sizes::class_size;
 
 // How reading a pattern ends: every item was read, or the first that is broken begins at a place, counted from 0.
 #[derive(Drop)]

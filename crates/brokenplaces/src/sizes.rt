@@ -1,7 +1,8 @@
 // How many bytes a class is written with: its members are read up to its `]`, and no byte is tested.
 ghost use Rattle.std.specs.Prelude.{◌≡◌, true, false, ℕ, ◌≤◌, ◌<◌, ◌+◌, length, drop};
 ghost use Rattle.classes.specs.Members.{single, until_close, name_at, next_member, members, read_class};
-ghost use Rattle.brokenplaces.specs.inner.ClassSizes.{class_size, Sized, members_size, starts_name, NextClose};
+ghost use Rattle.brokenplaces.specs.inner.ClassSizes.{Sized, members_size, starts_name, NextClose};
+ghost use Rattle.brokenplaces.specs.Sizes.{class_size};
 
 use bytestrings::find_byte;
 use classes::class::is_negated;

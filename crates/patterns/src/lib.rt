@@ -6,7 +6,7 @@ pub mod items;
 pub mod runs;
 
 // The two modes of a match.
-#[derive(Drop)]
+#[derive(Clone, Copy)]
 pub struct Mode {
     pub path: bool,
     pub fold: bool,

@@ -2,7 +2,7 @@
 use Rattle.std.specs.Prelude.{ℕ, ◌+◌, ◌≤◌, ◌≡◌, Bool, ◌&&◌, List, eqb, get_or, drop}
 use Rattle.std.proofs.Math.Option.{Option, none, some}
 use Rattle.bytestrings.specs.Text.{char}
-use Rattle.classes.specs.Members.{Step, close, broken, member, until_close, Members, Class}
+use Rattle.classes.specs.Members.{Step, close, broken, member, until_close, Members}
 
 -- the code's answer r for what stands next, which is not the closing `]`: 0 where it is broken, else the bytes that the member is written with
 abbrev pub Sized : ℕ → Step → Type 0
@@ -22,8 +22,3 @@ starts_name q = eqb (get_or q 0 0) (char "[") && eqb (get_or q 1 0) (char ":")
 -- the place k, unless it lies before i, is that of the next `]` from the place i on; the end where there is none
 abbrev pub NextClose : List ℕ → ℕ → ℕ → Type 0
 NextClose q i k = i ≤ k → k ≡ i + until_close (drop i q)
-
--- how many bytes the class that was read is written with after its `[`; 0: broken
-unfoldable pub class_size : Option Class → ℕ
-class_size none = 0
-class_size (some c) = c.size
