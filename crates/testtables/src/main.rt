@@ -46,10 +46,7 @@ fn run_file(rt: HostRuntime, table: Table, name: &str, file: &mut File, before: 
 // Runs the file of a name.
 fn run_named(rt: HostRuntime, table: Table, name: &str, before: Tally) -> Tally {
     match File::open(&rt, name) {
-        Ok(file) => {
-            let mut file = file;
-            run_file(rt, table, name, &mut file, before)
-        }
+        Ok(mut file) => run_file(rt, table, name, &mut file, before),
         Err(e) => {
             report::failed(rt, name, e);
             before

@@ -40,7 +40,7 @@ fn add_file(rt: HostRuntime, i: usize, files: &mut [u8], used: usize) -> usize {
         messages::wrong(rt, b"a rule file is missing, or its name is too long");
         return usize::MAX;
     };
-    let end = reading::read_file(rt, &name[..n], files, used);
+    let end = reading::read_file(rt, i, &name[..n], files, used);
     if end > files.len() {
         return usize::MAX;
     }
