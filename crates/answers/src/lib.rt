@@ -9,14 +9,14 @@ use attributelines::State;
 use rulefiles::Place;
 
 // The entry that was decided, by its length, and the place of the line that decided it.
-#[derive(Drop)]
+#[derive(Clone, Copy)]
 pub struct DecidedEntry {
     pub length: usize,
     pub place: Place,
 }
 
 // What the ignore question answers: undecided where no line decided; a refusal carries its number and nothing else.
-#[derive(Drop)]
+#[derive(Clone, Copy)]
 pub enum IgnoreAnswer {
     Undecided,
     Ignored(DecidedEntry),
@@ -25,14 +25,14 @@ pub enum IgnoreAnswer {
 }
 
 // An attribute's state beside the line that decided it.
-#[derive(Drop)]
+#[derive(Clone, Copy)]
 pub struct DecidedState {
     pub state: State,
     pub place: Place,
 }
 
 // What the attribute question answers.
-#[derive(Drop)]
+#[derive(Clone, Copy)]
 pub enum AttributeAnswer {
     Undecided,
     Decided(DecidedState),

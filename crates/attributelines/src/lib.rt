@@ -17,14 +17,14 @@ use bytestrings::same_bytes;
 use entries::pattern_matches;
 
 // A value's place in the rule bytes.
-#[derive(Drop)]
+#[derive(Clone, Copy)]
 pub struct Span {
     pub start: usize,
     pub length: usize,
 }
 
 // An attribute's state where a line decides it.
-#[derive(Drop)]
+#[derive(Clone, Copy)]
 pub enum State {
     Set,
     Unset,

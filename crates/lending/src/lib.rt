@@ -74,7 +74,7 @@ fn lend_file(
     if numbers.len() <= n {
         return Lending::Full;
     }
-    bytes::copy(file, &mut rules[at..]);
+    rules[at..at + file.len()].copy_from_slice(file);
     ends[n] = at + file.len();
     bases[n] = directory.len();
     numbers[n] = number;

@@ -9,7 +9,7 @@ ghost use Rattle.rulefiles.specs.RuleFiles.{bytes_between, bom_length, line_leng
 use bytestrings::find_byte;
 
 // Where a line stands: its file, counted from 0, and its number, from 1.
-#[derive(Drop)]
+#[derive(Clone, Copy)]
 pub struct Place {
     pub file: usize,
     pub line: usize,

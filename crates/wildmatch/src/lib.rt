@@ -12,7 +12,7 @@ use refusals::flags::{flag_one, flag_two, flags_high};
 use refusals::{holds_zero, too_long};
 
 // What the matcher answers: a broken pattern with the place where its first broken item begins; a refusal carries its number and nothing else.
-#[derive(Drop)]
+#[derive(Clone, Copy)]
 pub enum Answer {
     Unmatched,
     Matched,

@@ -1,0 +1,7 @@
+-- `fidshore::fidshore_ignore` meets its contract: the code is the number of what the question answers over the one file.
+use Rattle.answers.specs.Complete.{complete_ignore}
+use borrow.Author.Rules.{rules}
+use Rattle.fidshore.proofs.fidshore_ignore.Goals as goal
+
+pub returns : goal.returns
+returns c = record { answer = complete_ignore c.ignore.result; answered = c.ignore.ensures; coded = c.ignore_code.ensures }

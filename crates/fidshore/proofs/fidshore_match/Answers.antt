@@ -1,0 +1,6 @@
+-- `fidshore::fidshore_match` meets its contract: the code is that of what the matcher answers.
+use borrow.Author.Rules.{rules}
+use Rattle.fidshore.proofs.fidshore_match.Goals as goal
+
+pub returns : goal.returns
+returns c = record { answer = c.wildmatch.result; answered = c.wildmatch.ensures; coded = c.code_of_lem.ensures }

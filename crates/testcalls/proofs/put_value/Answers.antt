@@ -1,0 +1,21 @@
+-- Four stores, or none where the list is too short.
+use Rattle.testcalls.proofs.PutLaws.{put_short, put_stores}
+use native.Mathlib.Omega.{arith}
+use lib.ListN.{length-set}
+use borrow.Author.Rules.{rules}
+use Rattle.testcalls.proofs.put_value.Goals as goal
+
+pub returns-then-out-lt4 : goal.returns-then-out-lt4
+returns-then-out-lt4 c = put_short _ _ c.if-out-lt4.true
+
+pub bounds-out-1 : goal.bounds-out-1
+bounds-out-1 c = simp length-set (omega arith)
+
+pub bounds-out-2 : goal.bounds-out-2
+bounds-out-2 c = simp length-set (omega arith)
+
+pub bounds-out-3 : goal.bounds-out-3
+bounds-out-3 c = simp length-set (omega arith)
+
+pub returns : goal.returns
+returns c = put_stores _ _ c.if-out-lt4.false
