@@ -1,6 +1,7 @@
+use mathlib.Core.Bool.{not}
 use Rattle.engine.proofs.SkipLaws.{passed_begin, passed_next}
 use Rattle.engine.specs.inner.Outcomes.{Passed}
-use mathlib.Core.Path.{sym, ◌∙◌}
+use mathlib.Core.Path.{ap, sym, ◌∙◌}
 use lib.ListN.{length}
 use Prim.Native.Nat.{◌-◌}
 use borrow.Author.Tests.{not-false}
@@ -26,7 +27,7 @@ loop-j-smaller c = omega arith
 
 pub loop-j-preserved : goal.loop-j-preserved
 loop-j-preserved c =
-    passed_next _ _ _ _ _ c.loop-j.invariant c.loop-j-test.true (sym c.is_inside.ensures ∙ not-false _ c.if-not-is_inside.false) tt
+    passed_next _ _ _ _ _ c.loop-j.invariant c.loop-j-test.true (sym c.is_inside.ensures ∙ c.if-not-is_inside.false) tt
 
 pub returns : goal.returns
 returns c = c.loop-j.invariant

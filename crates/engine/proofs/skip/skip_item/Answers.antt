@@ -1,7 +1,8 @@
+use mathlib.Core.Bool.{not}
 use Rattle.engine.proofs.SkipLaws.{passed_begin, passed_next}
 use Rattle.patterns.specs.Items.{taken}
 use Rattle.engine.specs.inner.Outcomes.{Passed}
-use mathlib.Core.Path.{◌≡◌, sym, ◌∙◌}
+use mathlib.Core.Path.{ap, ◌≡◌, sym, ◌∙◌}
 use lib.ListN.{length, get_or}
 use Prim.Native.Nat.{◌-◌}
 use borrow.Author.Tests.{not-false}
@@ -31,7 +32,7 @@ loop-j-smaller c = omega arith
 
 pub loop-j-preserved : goal.loop-j-preserved
 loop-j-preserved c =
-    passed_next _ _ _ _ _ c.loop-j.invariant c.loop-j-test.true (sym c.is_inside.ensures ∙ not-false _ c.if-not-is_inside.false) (sym c.other_takes.ensures
+    passed_next _ _ _ _ _ c.loop-j.invariant c.loop-j-test.true (sym c.is_inside.ensures ∙ c.if-not-is_inside.false) (sym c.other_takes.ensures
     ∙ c.if-other_takes-ne0.false)
 
 pub returns : goal.returns

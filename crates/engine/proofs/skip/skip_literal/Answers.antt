@@ -1,8 +1,8 @@
 use Rattle.engine.proofs.SkipLaws.{passed_begin, passed_next}
 use Rattle.engine.specs.inner.Outcomes.{Passed}
 use Rattle.bytestrings.specs.Letters.{folded}
-use mathlib.Core.Path.{◌≡◌, sym, ◌∙◌}
-use mathlib.Core.Bool.{false}
+use mathlib.Core.Path.{ap, ◌≡◌, sym, ◌∙◌}
+use mathlib.Core.Bool.{not, false}
 use lib.Dec.{eqb}
 use lib.ListN.{length, get_or}
 use Prim.Native.Nat.{◌-◌}
@@ -33,7 +33,7 @@ loop-j-smaller c = omega arith
 
 pub loop-j-preserved : goal.loop-j-preserved
 loop-j-preserved c =
-    passed_next _ _ _ _ _ c.loop-j.invariant c.loop-j-test.true (sym c.is_inside.ensures ∙ not-false _ c.if-not-is_inside.false) (sym c.same_letter.ensures
+    passed_next _ _ _ _ _ c.loop-j.invariant c.loop-j-test.true (sym c.is_inside.ensures ∙ c.if-not-is_inside.false) (sym c.same_letter.ensures
     ∙ c.if-same_letter.false)
 
 pub returns : goal.returns
