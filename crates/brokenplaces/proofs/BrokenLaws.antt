@@ -233,7 +233,8 @@ module _ (p : List ℕ) (l : 0 < length p) (e : may_break (get_or p 0 0) ≡ tru
   unfolding first_size may_break read_item
   class_first = go p l e d
     where
-      go : (p : List ℕ) → 0 < length p → (eqb (get_or p 0 0) (char "\\") || eqb (get_or p 0 0) (char "[")) ≡ true → (get_or p 0 0 ≡ char "\\" → ⊥) → first_size p ≡ size_of (read_bracket (read_class (from 1 p)))
+      go : (p : List ℕ) → 0 < length p → (eqb (get_or p 0 0) (char "\\") || eqb (get_or p 0 0) (char "[")) ≡ true → (get_or p 0 0 ≡ char "\\" → ⊥)
+          → first_size p ≡ size_of (read_bracket (read_class (from 1 p)))
       go [] l e d = absurd (omega arith)
       go (x ∷ p) l e d = let b : eqb x (char "[") ≡ true = rw (ne_eqb x (char "\\") d) at e in rw (ne_eqb x (char "\\") d, b, eqb-true x (char "[") b, from-drop 1 (x ∷ p)) refl
 

@@ -3,7 +3,6 @@ use mathlib.Core.Path.{sym, subst}
 use Prim.Native.Nat.{◌-◌}
 use native.Mathlib.Omega.{arith}
 use lib.Seq.{length-take-le}
-use borrow.Author.Rules.{rules}
 use Rattle.brokenplaces.specs.inner.ClassSizes.{Sized}
 use Rattle.classes.proofs.MemberLaws.{name_open, name_empty, name-plain, name_unknown, name-found}
 use Rattle.brokenplaces.proofs.sizes.name_size.Goals as goal

@@ -2,7 +2,6 @@
 use mathlib.Core.Path.{◌∙◌}
 use native.Mathlib.Nat.{zero-add}
 use native.Mathlib.Omega.{arith}
-use borrow.Author.Rules.{rules}
 use Rattle.classes.specs.Members.{until_close}
 use Rattle.brokenplaces.proofs.MeasureLaws.{close-from}
 use Rattle.brokenplaces.proofs.sizes.next_close.Goals as goal

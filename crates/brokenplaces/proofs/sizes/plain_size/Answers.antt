@@ -1,7 +1,6 @@
 -- `brokenplaces::sizes::plain_size` meets its contract: each return settles the tests of `next_member`.
 use mathlib.Core.Path.{refl, subst}
 use native.Mathlib.Omega.{arith}
-use borrow.Author.Rules.{rules}
 use Rattle.brokenplaces.specs.inner.ClassSizes.{Sized}
 use Rattle.classes.proofs.MemberLaws.{first_goes_on, next_open, next_escaped}
 use Rattle.brokenplaces.proofs.MeasureLaws.{plain-single}

@@ -1,7 +1,6 @@
 -- `brokenplaces::sizes::single_size` meets its contract: each return settles the tests of `single`.
 use mathlib.Core.Path.{subst}
 use native.Mathlib.Omega.{arith}
-use borrow.Author.Rules.{rules}
 use Rattle.brokenplaces.specs.inner.ClassSizes.{Sized}
 use Rattle.classes.proofs.MemberLaws.{single_short, single-plain, single-close, single-range, single_open, single_escaped}
 use Rattle.brokenplaces.proofs.sizes.single_size.Goals as goal

@@ -4,7 +4,6 @@ use mathlib.Core.Bool.{and-false}
 use native.Mathlib.Omega.{arith}
 use lib.ListN.{get_or-eq_default}
 use borrow.Author.Tests.{eq-eqb, ne_eqb}
-use borrow.Author.Rules.{rules}
 use Rattle.bytestrings.specs.Text.{char}
 use Rattle.brokenplaces.proofs.sizes.starts_name.Goals as goal
 

@@ -1,0 +1,16 @@
+-- `attributelines::tokens::is_blank` meets its contract: the three blanks.
+use borrow.Author.Tests.{eq-eqb, ne_eqb}
+use Rattle.attributelines.specs.AttributeLines.{is_blank}
+use Rattle.attributelines.proofs.tokens.is_blank.Goals as goal
+
+pub returns-then-b-eq32 : goal.returns-then-b-eq32
+unfolding is_blank
+returns-then-b-eq32 c = rw (eq-eqb _ _ c.if-b-eq32.true)
+
+pub returns-then-b-eq9 : goal.returns-then-b-eq9
+unfolding is_blank
+returns-then-b-eq9 c = rw (ne_eqb _ _ c.if-b-eq32.false, eq-eqb _ _ c.if-b-eq9.true)
+
+pub returns : goal.returns
+unfolding is_blank
+returns c = rw (ne_eqb _ _ c.if-b-eq32.false, ne_eqb _ _ c.if-b-eq9.false)

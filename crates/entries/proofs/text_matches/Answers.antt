@@ -1,0 +1,7 @@
+-- `entries::text_matches` meets its contract: the first bytes differ, or the matcher is asked.
+use borrow.Author.Rules.{rules}
+use Rattle.entries.proofs.PrefilterLaws.{text_differs}
+use Rattle.entries.proofs.text_matches.Goals as goal
+
+pub returns-then-first_byte_excludes : goal.returns-then-first_byte_excludes
+returns-then-first_byte_excludes c = text_differs _ _ _ _ c.first_byte_excludes.ensures c.if-first_byte_excludes.true

@@ -1,0 +1,15 @@
+-- `ignorelines::kept_scan` meets its contract: what stays of the whole line is what is known to stay, or reaches into what is left.
+use Prim.Native.Nat.{◌-◌, ◌≤◌}
+use mathlib.Core.Path.{◌≡◌, sym, ◌∙◌}
+use mathlib.Core.Bool.{false}
+use borrow.Author.Rules.{rules}
+use lib.ListN.{length, drop}
+use Rattle.ignorelines.specs.IgnoreLines.{kept}
+use Rattle.ignorelines.proofs.LineLaws.{reach, kept_begin, kept_step, kept_end}
+use Rattle.ignorelines.proofs.kept_scan.Given as goal
+
+abbrev pub invariant-loop-i : goal.invariant-loop-i
+invariant-loop-i l = (l.i ≤ length l.line) × (kept false l.line ≡ reach l.keep l.i (kept l.escaped (drop l.i l.line)))
+
+abbrev pub decreases-loop-i : goal.decreases-loop-i
+decreases-loop-i l = length l.line - l.i
