@@ -9,11 +9,6 @@ use Rattle.ignorelines.proofs.LineLaws.{bytes_empty, bytes_comment, bytes_rule, 
 use borrow.Author.Rules.{rules}
 use Rattle.ignorelines.proofs.line_effect.Goals as goal
 
-fits : (c : goal.After-kept_length-n)
-    → c.kept_length-n.result ≤ length c.without_cr-content.result.now
-fits c =
-    omega (arith, c.kept_length-n.ensures, kept_fits false c.without_cr-content.result.now)
-
 pub returns-then-content-eq0 : goal.returns-then-content-eq0
 returns-then-content-eq0 c = bytes_empty _ _ _ c.without_cr-content.ensures c.if-content-eq0.true
 
@@ -22,7 +17,8 @@ returns-then-content-eq35 c =
     bytes_comment _ _ _ c.without_cr-content.ensures c.if-content-eq0.false c.if-content-eq35.true
 
 pub slice_bounds-rule_effect-end : goal.slice_bounds-rule_effect-end
-slice_bounds-rule_effect-end c = sym (length-take-le _ _ (fits c.before))
+slice_bounds-rule_effect-end c = 
+    sym (length-take-le _ _ (omega (arith, c.kept_length-n.ensures, kept_fits false c.without_cr-content.result.now)))
 
 pub returns : goal.returns
 returns c =
