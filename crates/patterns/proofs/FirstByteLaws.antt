@@ -1,6 +1,6 @@
 -- A pattern that begins with a byte which stands for itself matches no text but one that begins with a byte which this literal accepts.
 use mathlib.Core.Path.{◌≡◌, sym, ◌∙◌}
-use mathlib.Core.Bool.{Bool, true, false, false≢true, or-false}
+use mathlib.Core.Bool.{Bool, true, false≢true, or-false}
 use mathlib.Core.List.{List, [], ◌∷◌}
 use mathlib.Core.Option.{Option, none, some}
 use Prim.Native.Nat.{ℕ}

@@ -1,6 +1,5 @@
 -- `attributelines::is_definition` meets its contract: too short, another first byte, or the five bytes after it.
 use Rattle.attributelines.proofs.MentionLaws.{definition_short, definition_first, definition-rest}
-use borrow.Author.Rules.{rules}
 use Rattle.attributelines.proofs.is_definition.Goals as goal
 
 pub returns-then-pattern-le6 : goal.returns-then-pattern-le6

@@ -7,7 +7,6 @@ use Rattle.bytestrings.proofs.UntilLaws.{until_within}
 use Rattle.attributelines.specs.AttributeLines.{is_blank, tokens, state_of}
 use Rattle.attributelines.proofs.TokenLaws.{tokens_end, tokens_next}
 use Rattle.attributelines.proofs.LineLaws.{line_empty, line_dropped, line_other, line-matched}
-use borrow.Author.Rules.{rules}
 use Rattle.entries.specs.Entries.{against}
 use Rattle.attributelines.proofs.line_effect.Goals as goal
 

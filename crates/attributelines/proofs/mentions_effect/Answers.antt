@@ -1,14 +1,13 @@
-use Prim.Native.Nat.{ℕ, ◌+◌, ◌-◌, ◌<◌, ◌≤◌}
+use Prim.Native.Nat.{ℕ, ◌+◌, ◌<◌, ◌≤◌}
 use native.Mathlib.Omega.{arith}
 use mathlib.Core.Path.{◌≡◌, sym, ap, ◌∙◌}
 use mathlib.Core.Bool.{true, not}
 use mathlib.Core.List.{List}
-use borrow.Author.Rules.{rules}
 use lib.ListN.{length, drop}
 use lib.Seq.{length-take-le}
 use Rattle.bytestrings.proofs.UntilLaws.{until_past, until_within}
-use Rattle.attributelines.specs.AttributeLines.{is_blank, tokens, state_of}
-use Rattle.attributelines.specs.inner.Scan.{blank_length, token_length, mentions_state}
+use Rattle.attributelines.specs.AttributeLines.{is_blank, state_of}
+use Rattle.attributelines.specs.inner.Scan.{blank_length, token_length}
 use Rattle.attributelines.proofs.TokenLaws.{tokens_end, token_long}
 use Rattle.attributelines.proofs.LineLaws.{pending, pending_begin, pending_end, turn_bad, turn_named, turn_other}
 use Rattle.attributelines.proofs.mentions_effect.Goals as goal

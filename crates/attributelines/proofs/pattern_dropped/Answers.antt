@@ -1,6 +1,5 @@
 -- `attributelines::pattern_dropped` meets its contract: by the first byte, else a definition.
 use Rattle.attributelines.proofs.MentionLaws.{dropped_empty, dropped_comment, dropped_not, dropped_quote, dropped_definition}
-use borrow.Author.Rules.{rules}
 use Rattle.attributelines.proofs.pattern_dropped.Goals as goal
 
 pub returns-then-pattern-eq0 : goal.returns-then-pattern-eq0

@@ -3,7 +3,6 @@ use Rattle.attributenames.specs.Names.{BadName}
 use Rattle.bytestrings.proofs.BoolLaws.{yes_iff}
 use Rattle.attributenames.proofs.NameLaws.{name_bad}
 use mathlib.Core.Logic.{inl}
-use borrow.Author.Rules.{rules}
 use Rattle.attributenames.proofs.name_bad.Goals as goal
 
 pub returns-then-name-gt-NAME_LIMIT : goal.returns-then-name-gt-NAME_LIMIT

@@ -1,6 +1,5 @@
 -- `attributenames::name_byte` meets its contract: each test is one part of the definition.
 use Rattle.attributenames.proofs.NameLaws.{byte_small, byte_capital, byte_digit, byte_hyphen, byte_stop, byte_last}
-use borrow.Author.Rules.{rules}
 use Rattle.attributenames.proofs.name_byte.Goals as goal
 
 pub returns-then-between : goal.returns-then-between

@@ -1,11 +1,6 @@
-use Rattle.attributenames.specs.Names.{name_bytes, good_name}
 use Rattle.attributenames.proofs.NameLaws.{name_none, name_hyphen, name_begin, name_other, name_next, name_end}
-use mathlib.Core.Path.{◌≡◌, sym, ◌∙◌}
-use borrow.Author.Rules.{rules}
-use borrow.Author.Tests.{not-true, not-false}
-use Prim.Native.Nat.{◌-◌}
+use mathlib.Core.Path.{sym, ◌∙◌}
 use native.Mathlib.Omega.{arith}
-use lib.ListN.{length, drop}
 use Rattle.attributenames.proofs.name_good.Goals as goal
 
 pub returns-then-name-eq0 : goal.returns-then-name-eq0

@@ -1,11 +1,7 @@
 -- `attributenames::name_good` meets its contract. The bytes not yet passed decide.
 use Rattle.attributenames.specs.Names.{name_bytes, good_name}
-use Rattle.attributenames.proofs.NameLaws.{name_none, name_hyphen, name_begin, name_other, name_next, name_end}
-use mathlib.Core.Path.{◌≡◌, sym, ◌∙◌}
-use borrow.Author.Rules.{rules}
-use borrow.Author.Tests.{not-true, not-false}
+use mathlib.Core.Path.{◌≡◌}
 use Prim.Native.Nat.{◌-◌}
-use native.Mathlib.Omega.{arith}
 use lib.ListN.{length, drop}
 use Rattle.attributenames.proofs.name_good.Given as goal
 

@@ -1,10 +1,6 @@
-use Prim.Native.Nat.{◌+◌, ◌-◌}
-use mathlib.Core.Path.{◌≡◌, refl, sym, ◌∙◌}
-use borrow.Author.Rules.{rules}
+use mathlib.Core.Path.{refl, sym, ◌∙◌}
 use borrow.Author.Tests.{eq-eqb, ne_eqb}
 use lib.Dec.{eqb}
-use lib.ListN.{length, drop}
-use Rattle.bytestrings.specs.Bytes.{length_until}
 use Rattle.bytestrings.proofs.UntilLaws.{until_stop, until_more, until_past}
 use Rattle.bytestrings.proofs.find_byte.Goals as goal
 

@@ -1,12 +1,9 @@
 -- `bytestrings::find_byte` meets its contract: the next b from the start on is the next from the place reached on.
 use Prim.Native.Nat.{◌+◌, ◌-◌}
-use mathlib.Core.Path.{◌≡◌, refl, sym, ◌∙◌}
-use borrow.Author.Rules.{rules}
-use borrow.Author.Tests.{eq-eqb, ne_eqb}
+use mathlib.Core.Path.{◌≡◌}
 use lib.Dec.{eqb}
 use lib.ListN.{length, drop}
 use Rattle.bytestrings.specs.Bytes.{length_until}
-use Rattle.bytestrings.proofs.UntilLaws.{until_stop, until_more, until_past}
 use Rattle.bytestrings.proofs.find_byte.Given as goal
 
 abbrev pub invariant-loop-i : goal.invariant-loop-i

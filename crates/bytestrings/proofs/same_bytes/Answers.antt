@@ -1,9 +1,6 @@
-use Prim.Native.Nat.{◌-◌, ◌≤◌}
 use native.Mathlib.Omega.{arith}
-use mathlib.Core.Path.{◌≡◌, refl, sym, ◌∙◌}
+use mathlib.Core.Path.{refl, sym, ◌∙◌}
 use borrow.Author.Rules.{rules}
-use lib.ListN.{length, drop}
-use Rattle.bytestrings.specs.Bytes.{same_bytes}
 use Rattle.bytestrings.proofs.SameLaws.{same_length, same_next, same_differs, same_end}
 use Rattle.bytestrings.proofs.same_bytes.Goals as goal
 

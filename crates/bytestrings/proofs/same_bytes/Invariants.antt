@@ -1,11 +1,8 @@
 -- `bytestrings::same_bytes` meets its contract: the bytes differ in length, in a byte, or not at all.
 use Prim.Native.Nat.{◌-◌, ◌≤◌}
-use native.Mathlib.Omega.{arith}
-use mathlib.Core.Path.{◌≡◌, refl, sym, ◌∙◌}
-use borrow.Author.Rules.{rules}
+use mathlib.Core.Path.{◌≡◌}
 use lib.ListN.{length, drop}
 use Rattle.bytestrings.specs.Bytes.{same_bytes}
-use Rattle.bytestrings.proofs.SameLaws.{same_length, same_next, same_differs, same_end}
 use Rattle.bytestrings.proofs.same_bytes.Given as goal
 
 abbrev pub invariant-loop-i : goal.invariant-loop-i

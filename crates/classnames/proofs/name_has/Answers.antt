@@ -1,6 +1,5 @@
 -- `classnames::name_has` meets its contract: the byte's bit in the row that was read. The code's constant is the table of the law,
 use native.Mathlib.Omega.{arith}
-use borrow.Author.Rules.{rules}
 use Rattle.classnames.specs.Names.{table, spans}
 use Rattle.classnames.proofs.NameLaws.{named_bit, named-above, named_none}
 use Rattle.classnames.proofs.name_has.Goals as goal

@@ -1,9 +1,7 @@
-use mathlib.Core.Path.{◌≡◌, ap, ◌∙◌}
-use Prim.Native.Nat.{ℕ, ◌+◌, ◌*◌, ◌≤◌}
+use mathlib.Core.Path.{ap, ◌∙◌}
+use Prim.Native.Nat.{ℕ, ◌+◌, ◌*◌}
 use native.Mathlib.Omega.{arith}
-use lib.ListN.{length, drop}
 use borrow.Author.Rules.{rules}
-use Rattle.classnames.specs.inner.PackedNames.{packed}
 use Rattle.classnames.proofs.PackLaws.{pack_end, pack_more, pack_fits, pack_long, pack_whole}
 use Rattle.classnames.proofs.pack_any.Goals as goal
 

@@ -1,7 +1,6 @@
 -- `classnames::pack_five` meets its contract: each byte is below 256, so no sum wraps.
 use Rattle.classnames.proofs.PackLaws.{pack_five}
 use native.Mathlib.Omega.{arith}
-use borrow.Author.Rules.{rules}
 use Rattle.classnames.proofs.pack_five.Goals as goal
 
 pub overflow_add-result : goal.overflow_add-result

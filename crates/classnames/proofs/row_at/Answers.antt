@@ -1,5 +1,4 @@
 -- `classnames::row_at` meets its contract: each arm reads the place that it stands for.
-use mathlib.Core.Path.{refl}
 use borrow.Author.Rules.{rules}
 use Rattle.classnames.proofs.TableLaws.{no_row}
 use Rattle.classnames.proofs.row_at.Goals as goal

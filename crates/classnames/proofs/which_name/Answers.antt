@@ -1,7 +1,6 @@
-use Prim.Native.Nat.{◌≤◌, ◌-◌}
 use native.Mathlib.Omega.{arith}
 use borrow.Author.Rules.{rules}
-use Rattle.classnames.proofs.PackLaws.{NotBefore, which_start, which_here, which_more, which_end}
+use Rattle.classnames.proofs.PackLaws.{which_start, which_here, which_more, which_end}
 use Rattle.classnames.proofs.which_name.Goals as goal
 
 pub loop-k-init : goal.loop-k-init

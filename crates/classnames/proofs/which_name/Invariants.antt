@@ -1,8 +1,6 @@
 -- `classnames::which_name` meets its contract: it is none of the names passed.
 use Prim.Native.Nat.{◌≤◌, ◌-◌}
-use native.Mathlib.Omega.{arith}
-use borrow.Author.Rules.{rules}
-use Rattle.classnames.proofs.PackLaws.{NotBefore, which_start, which_here, which_more, which_end}
+use Rattle.classnames.proofs.PackLaws.{NotBefore}
 use Rattle.classnames.proofs.which_name.Given as goal
 
 abbrev pub invariant-loop-k : goal.invariant-loop-k

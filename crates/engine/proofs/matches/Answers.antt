@@ -2,7 +2,6 @@
 use Rattle.patterns.proofs.Meaning.{decides}
 use Rattle.engine.proofs.OutcomeLaws.{matched, means-answer}
 use mathlib.Core.Path.{◌∙◌, sym, ap}
-use borrow.Author.Rules.{rules}
 use Rattle.engine.proofs.matches.Goals as goal
 
 pub returns-in-Matched : goal.returns-in-Matched

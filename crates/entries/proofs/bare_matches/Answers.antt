@@ -2,7 +2,6 @@
 use mathlib.Core.Path.{sym, ◌∙◌}
 use Rattle.entries.proofs.PatternLaws.{bare_empty, bare_component, bare_rest, bare_slash, bare_anchored}
 use Rattle.entries.proofs.PrefilterLaws.{bare_excluded}
-use borrow.Author.Rules.{rules}
 use Rattle.entries.proofs.bare_matches.Goals as goal
 
 pub returns-then-pattern-eq0 : goal.returns-then-pattern-eq0

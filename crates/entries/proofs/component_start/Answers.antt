@@ -1,11 +1,8 @@
-use Prim.Native.Nat.{◌≤◌}
 use native.Mathlib.Omega.{arith}
-use mathlib.Core.Path.{◌≡◌, sym}
-use mathlib.Core.Bool.{false}
+use mathlib.Core.Path.{sym}
 use borrow.Author.Rules.{rules}
-use lib.ListN.{length, drop}
+use lib.ListN.{length}
 use Rattle.bytestrings.specs.Text.{char}
-use Rattle.bytestrings.specs.Bytes.{has}
 use Rattle.bytestrings.proofs.ByteLaws.{has_none, none_before}
 use Rattle.entries.proofs.ComponentLaws.{start-found, start_none}
 use Rattle.entries.proofs.component_start.Goals as goal

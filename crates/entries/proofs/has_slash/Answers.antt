@@ -1,9 +1,6 @@
-use Prim.Native.Nat.{◌-◌, ◌≤◌}
-use mathlib.Core.Path.{◌≡◌, sym, ◌∙◌}
+use mathlib.Core.Path.{sym, ◌∙◌}
 use borrow.Author.Rules.{rules}
-use lib.ListN.{length, drop}
 use Rattle.bytestrings.specs.Text.{char}
-use Rattle.bytestrings.specs.Bytes.{has}
 use Rattle.bytestrings.proofs.ByteLaws.{has_at, has_next, has_none}
 use Rattle.entries.proofs.has_slash.Goals as goal
 

@@ -1,11 +1,9 @@
 -- `entries::has_slash` meets its contract: no `/` stands before the place that is looked at.
 use Prim.Native.Nat.{◌-◌, ◌≤◌}
-use mathlib.Core.Path.{◌≡◌, sym, ◌∙◌}
-use borrow.Author.Rules.{rules}
+use mathlib.Core.Path.{◌≡◌}
 use lib.ListN.{length, drop}
 use Rattle.bytestrings.specs.Text.{char}
 use Rattle.bytestrings.specs.Bytes.{has}
-use Rattle.bytestrings.proofs.ByteLaws.{has_at, has_next, has_none}
 use Rattle.entries.proofs.has_slash.Given as goal
 
 abbrev pub invariant-loop-i : goal.invariant-loop-i

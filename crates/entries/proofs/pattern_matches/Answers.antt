@@ -4,7 +4,6 @@ use native.Mathlib.Omega.{arith}
 use lib.Seq.{length-take-le}
 use Rattle.entries.specs.Entries.{against}
 use Rattle.entries.proofs.PatternLaws.{texts_empty, texts_plain, texts_file, texts_directory}
-use borrow.Author.Rules.{rules}
 use Rattle.entries.proofs.pattern_matches.Goals as goal
 
 pub returns-then-n-eq0 : goal.returns-then-n-eq0

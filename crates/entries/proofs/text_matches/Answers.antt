@@ -1,5 +1,4 @@
 -- `entries::text_matches` meets its contract: the first bytes differ, or the matcher is asked.
-use borrow.Author.Rules.{rules}
 use Rattle.entries.proofs.PrefilterLaws.{text_differs}
 use Rattle.entries.proofs.text_matches.Goals as goal
 

@@ -1,6 +1,5 @@
 -- `ignorelines::kept_length` meets its contract: a line that ends in no space keeps all its bytes.
 use Rattle.ignorelines.proofs.LineLaws.{kept_empty, kept_all}
-use borrow.Author.Rules.{rules}
 use Rattle.ignorelines.proofs.kept_length.Goals as goal
 
 pub returns-then-n-eq0 : goal.returns-then-n-eq0

@@ -1,10 +1,6 @@
-use Prim.Native.Nat.{◌-◌, ◌≤◌}
-use mathlib.Core.Path.{◌≡◌, sym, ◌∙◌}
-use mathlib.Core.Bool.{false}
+use mathlib.Core.Path.{sym, ◌∙◌}
 use borrow.Author.Rules.{rules}
-use lib.ListN.{length, drop}
-use Rattle.ignorelines.specs.IgnoreLines.{kept}
-use Rattle.ignorelines.proofs.LineLaws.{reach, kept_begin, kept_step, kept_end}
+use Rattle.ignorelines.proofs.LineLaws.{kept_begin, kept_step, kept_end}
 use Rattle.ignorelines.proofs.kept_scan.Goals as goal
 
 pub loop-i-init : goal.loop-i-init

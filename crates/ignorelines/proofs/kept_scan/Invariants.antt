@@ -1,11 +1,10 @@
 -- `ignorelines::kept_scan` meets its contract: what stays of the whole line is what is known to stay, or reaches into what is left.
 use Prim.Native.Nat.{◌-◌, ◌≤◌}
-use mathlib.Core.Path.{◌≡◌, sym, ◌∙◌}
+use mathlib.Core.Path.{◌≡◌}
 use mathlib.Core.Bool.{false}
-use borrow.Author.Rules.{rules}
 use lib.ListN.{length, drop}
 use Rattle.ignorelines.specs.IgnoreLines.{kept}
-use Rattle.ignorelines.proofs.LineLaws.{reach, kept_begin, kept_step, kept_end}
+use Rattle.ignorelines.proofs.LineLaws.{reach}
 use Rattle.ignorelines.proofs.kept_scan.Given as goal
 
 abbrev pub invariant-loop-i : goal.invariant-loop-i

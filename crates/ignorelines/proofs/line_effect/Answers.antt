@@ -1,12 +1,9 @@
 -- `ignorelines::line_effect` meets its contract: the line is skipped, or its rule has the effect.
-use Prim.Native.Nat.{◌≤◌}
 use native.Mathlib.Omega.{arith}
 use mathlib.Core.Path.{sym}
 use mathlib.Core.Bool.{false}
-use lib.ListN.{length}
 use lib.Seq.{length-take-le}
 use Rattle.ignorelines.proofs.LineLaws.{bytes_empty, bytes_comment, bytes_rule, kept_fits}
-use borrow.Author.Rules.{rules}
 use Rattle.ignorelines.proofs.line_effect.Goals as goal
 
 pub returns-then-content-eq0 : goal.returns-then-content-eq0
@@ -17,7 +14,7 @@ returns-then-content-eq35 c =
     bytes_comment _ _ _ c.without_cr-content.ensures c.if-content-eq0.false c.if-content-eq35.true
 
 pub slice_bounds-rule_effect-end : goal.slice_bounds-rule_effect-end
-slice_bounds-rule_effect-end c = 
+slice_bounds-rule_effect-end c =
     sym (length-take-le _ _ (omega (arith, c.kept_length-n.ensures, kept_fits false c.without_cr-content.result.now)))
 
 pub returns : goal.returns

@@ -3,7 +3,6 @@ use mathlib.Core.Path.{sym}
 use native.Mathlib.Omega.{arith}
 use lib.Seq.{length-take-le}
 use Rattle.ignorelines.proofs.LineLaws.{cr_empty, cr_dropped, cr_none}
-use borrow.Author.Rules.{rules}
 use Rattle.ignorelines.proofs.without_cr.Goals as goal
 
 pub returns-then-n-eq0 : goal.returns-then-n-eq0

@@ -3,7 +3,6 @@ use Prim.Native.Nat.{◌+◌}
 use Rattle.paths.proofs.ScanLaws.{open_within, bad_ends, bad_other, bad_dot, bad_dot_other, bad_dots}
 use mathlib.Core.Path.{◌∙◌}
 use native.Mathlib.Omega.{arith}
-use borrow.Author.Rules.{rules}
 use Rattle.paths.proofs.bad_here.Goals as goal
 
 pub returns-then-ends_here : goal.returns-then-ends_here

@@ -1,7 +1,5 @@
-use Rattle.bytestrings.proofs.ByteInLaws.{Scanned, scanned_begin, scanned_here, scanned_other, scanned_end, Either, first_in, second_in}
-use mathlib.Core.Path.{◌≡◌}
+use Rattle.bytestrings.proofs.ByteInLaws.{scanned_begin, scanned_here, scanned_other, scanned_end, Either, first_in, second_in}
 use mathlib.Core.Logic.{inl, inr, ⊎_elim}
-use Prim.Native.Nat.{ℕ, ◌+◌, ◌-◌, ◌<◌, ◌≤◌}
 use native.Mathlib.Omega.{arith}
 use Rattle.paths.specs.Paths.{ControlByte}
 use Rattle.paths.proofs.control_in.Invariants.{Low, Delete}
@@ -38,11 +36,11 @@ loop-j-preserved c =
     let at = c.loop-j.invariant in (
       omega (arith, at.0),
       elim c.if-path-i-lt-CONTROL_END.branch [
-        then-path-i-lt-CONTROL_END w ↦ scanned_here Low _ _ _ _ (omega arith) w.low-is
+        | then-path-i-lt-CONTROL_END w ↦ scanned_here Low _ _ _ _ (omega arith) w.low-is
         | else-path-i-lt-CONTROL_END w ↦ scanned_other Low _ _ _ _ _ (λ l. absurd (omega (arith, l))) at.1 w.low-is
       ],
       elim c.if-path-i-eq-DELETE.branch [
-        then-path-i-eq-DELETE w ↦ scanned_here Delete _ _ _ _ (omega arith) w.delete-is
+        | then-path-i-eq-DELETE w ↦ scanned_here Delete _ _ _ _ (omega arith) w.delete-is
         | else-path-i-eq-DELETE w ↦ scanned_other Delete _ _ _ _ _ (λ e. absurd (omega (arith, e))) at.2 w.delete-is
       ],
     )

@@ -1,10 +1,7 @@
 -- `paths::control_in` meets its contract: each flag is whether its test held of one of the j bytes passed.
-use Rattle.bytestrings.proofs.ByteInLaws.{Scanned, scanned_begin, scanned_here, scanned_other, scanned_end, Either, first_in, second_in}
+use Rattle.bytestrings.proofs.ByteInLaws.{Scanned}
 use mathlib.Core.Path.{◌≡◌}
-use mathlib.Core.Logic.{inl, inr, ⊎_elim}
 use Prim.Native.Nat.{ℕ, ◌+◌, ◌-◌, ◌<◌, ◌≤◌}
-use native.Mathlib.Omega.{arith}
-use Rattle.paths.specs.Paths.{ControlByte}
 use Rattle.paths.proofs.control_in.Given as goal
 
 abbrev pub Low : ℕ → Type 0

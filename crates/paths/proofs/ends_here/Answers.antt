@@ -1,6 +1,5 @@
 -- `paths::ends_here` meets its contract.
 use Rattle.paths.proofs.ScanLaws.{ends_past, ends_at}
-use borrow.Author.Rules.{rules}
 use Rattle.paths.proofs.ends_here.Goals as goal
 
 pub returns-then-path-at : goal.returns-then-path-at

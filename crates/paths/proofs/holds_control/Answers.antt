@@ -2,7 +2,6 @@
 use Rattle.bytestrings.proofs.ByteInLaws.{holds_whole, holds_first, holds_second}
 use Rattle.paths.specs.Paths.{ControlByte}
 use native.Mathlib.Omega.{arith}
-use borrow.Author.Rules.{rules}
 use Rattle.paths.proofs.holds_control.Goals as goal
 
 pub returns-then-n-lt8 : goal.returns-then-n-lt8

@@ -1,13 +1,9 @@
 use Rattle.paths.specs.Paths.{BadPath}
-use Rattle.paths.specs.inner.Scans.{bad_later}
 use Rattle.bytestrings.proofs.BoolLaws.{yes_iff, no_iff, not_if_false}
 use Rattle.paths.proofs.ScanLaws.{later_here, later_fine, later-plain, later_past}
 use Rattle.paths.proofs.ComponentLaws.{bad_start, bad_later_lem, good_path}
-use mathlib.Core.Path.{◌≡◌, refl, sym, ◌∙◌}
-use mathlib.Core.Logic.{inl, inr, ⊎_elim}
-use Prim.Native.Nat.{◌-◌}
-use lib.ListN.{length, drop}
-use borrow.Author.Rules.{rules}
+use mathlib.Core.Path.{refl, sym, ◌∙◌}
+use mathlib.Core.Logic.{inl, inr}
 use native.Mathlib.Omega.{arith}
 use Rattle.paths.proofs.path_bad.Goals as goal
 use Rattle.paths.proofs.path_bad.Goals.{then-path-i-eq47+else-bad_here-2, else-path-i-eq47}
@@ -46,7 +42,7 @@ pub loop-i-preserved : goal.loop-i-preserved
 loop-i-preserved c =
     c.loop-i.invariant
     ∙ elim c.if-path-i-eq47.branch [
-      then-path-i-eq47+else-bad_here-2 w ↦ later_fine _ _ c.loop-i-test.true w.if-path-i-eq47.true (sym w.bad_here-then-path-i-eq47.ensures ∙ w.if-bad_here-2.false)
+      | then-path-i-eq47+else-bad_here-2 w ↦ later_fine _ _ c.loop-i-test.true w.if-path-i-eq47.true (sym w.bad_here-then-path-i-eq47.ensures ∙ w.if-bad_here-2.false)
       | else-path-i-eq47 w ↦ later-plain _ _ c.loop-i-test.true w.if-path-i-eq47.false
     ]
 

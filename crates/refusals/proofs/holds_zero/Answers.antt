@@ -2,7 +2,6 @@
 use Rattle.bytestrings.proofs.ByteInLaws.{holds_whole, holds_first, holds_second, zero_among}
 use Rattle.bytestrings.specs.inner.Places.{Zero}
 use native.Mathlib.Omega.{arith}
-use borrow.Author.Rules.{rules}
 use Rattle.refusals.proofs.holds_zero.Goals as goal
 
 pub returns-then-n-lt4 : goal.returns-then-n-lt4

@@ -1,6 +1,5 @@
-use Rattle.bytestrings.proofs.ByteInLaws.{Scanned, scanned_begin, scanned_here, scanned_other, scanned_end}
+use Rattle.bytestrings.proofs.ByteInLaws.{scanned_begin, scanned_here, scanned_other, scanned_end}
 use Rattle.bytestrings.specs.inner.Places.{Zero}
-use Prim.Native.Nat.{◌+◌, ◌-◌, ◌≤◌}
 use native.Mathlib.Omega.{arith}
 use Rattle.refusals.proofs.zero_in.Goals as goal
 use Rattle.refusals.proofs.zero_in.Goals.{then-bytes-i-eq0, else-bytes-i-eq0}

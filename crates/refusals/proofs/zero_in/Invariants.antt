@@ -1,9 +1,7 @@
 -- `refusals::zero_in` meets its contract: byte 0 was found among the j bytes passed, or not.
-use Rattle.bytestrings.proofs.ByteInLaws.{Scanned, scanned_begin, scanned_here, scanned_other, scanned_end}
+use Rattle.bytestrings.proofs.ByteInLaws.{Scanned}
 use Rattle.bytestrings.specs.inner.Places.{Zero}
-use mathlib.Core.Logic.{⊎_elim}
 use Prim.Native.Nat.{◌+◌, ◌-◌, ◌≤◌}
-use native.Mathlib.Omega.{arith}
 use Rattle.refusals.proofs.zero_in.Given as goal
 
 abbrev pub invariant-loop-j : goal.invariant-loop-j

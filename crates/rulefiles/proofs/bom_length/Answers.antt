@@ -1,6 +1,5 @@
 -- `rulefiles::bom_length` meets its contract: each return is one law about the first three bytes.
 use Rattle.rulefiles.proofs.PartLaws.{bom_short, bom_first, bom_second, bom_third, bom-whole}
-use borrow.Author.Rules.{rules}
 use Rattle.rulefiles.proofs.bom_length.Goals as goal
 
 pub returns-then-file-lt3 : goal.returns-then-file-lt3

@@ -2,7 +2,6 @@
 use mathlib.Core.Path.{refl}
 use Rattle.rulefiles.specs.RuleFiles.{bytes_between}
 use Rattle.rulefiles.proofs.PartLaws.{part_none, part_past, part_rest}
-use borrow.Author.Rules.{rules}
 use Rattle.rulefiles.proofs.file_part.Goals as goal
 
 pub returns-then-end-start : goal.returns-then-end-start

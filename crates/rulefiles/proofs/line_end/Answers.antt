@@ -1,5 +1,4 @@
 -- `rulefiles::line_end` meets its contract: a line ends at the next newline.
-use borrow.Author.Rules.{rules}
 use Rattle.rulefiles.proofs.line_end.Goals as goal
 
 pub returns : goal.returns

@@ -1,7 +1,6 @@
 -- `wildmatch::code_of` meets its contract: one line for each answer.
 use Rattle.wildmatch.specs.Answers.{code_of}
 use mathlib.Core.Path.{refl}
-use borrow.Author.Rules.{rules}
 use Rattle.wildmatch.proofs.code_of.Goals as goal
 
 pub returns-in-Unmatched : goal.returns-in-Unmatched

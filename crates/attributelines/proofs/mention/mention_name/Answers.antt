@@ -8,7 +8,6 @@ use lib.ListN.{length, drop}
 use Rattle.bytestrings.proofs.UntilLaws.{until_within}
 use Rattle.attributelines.specs.AttributeLines.{Mention, name_length}
 use Rattle.attributelines.proofs.MentionLaws.{mention_past, mention_minus, mention_not, mention-plain, name-bytes}
-use borrow.Author.Rules.{rules}
 use Rattle.bytestrings.specs.Text.{char}
 use Rattle.attributelines.proofs.mention.mention_name.Goals as goal
 

@@ -9,7 +9,6 @@ use Rattle.bytestrings.proofs.UntilLaws.{until_within}
 use Rattle.attributelines.specs.AttributeLines.{Mention, name_length}
 use Rattle.attributelines.specs.declared.State.{State}
 use Rattle.attributelines.proofs.MentionLaws.{mention_past, mention_minus, mention_not, state-set, state_value}
-use borrow.Author.Rules.{rules}
 use Rattle.bytestrings.specs.Text.{char}
 use Rattle.attributelines.proofs.mention.mention_state.Goals as goal
 

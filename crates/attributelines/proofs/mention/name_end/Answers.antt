@@ -1,5 +1,4 @@
 -- `attributelines::mention::name_end` meets its contract: a name ends at the next `=`.
-use borrow.Author.Rules.{rules}
 use Rattle.attributelines.proofs.mention.name_end.Goals as goal
 
 pub returns : goal.returns

@@ -1,11 +1,7 @@
-use Prim.Native.Nat.{◌+◌, ◌-◌}
-use mathlib.Core.Path.{◌≡◌, refl, sym, ap, ◌∙◌}
+use mathlib.Core.Path.{refl, sym, ap, ◌∙◌}
 use mathlib.Core.Bool.{not}
-use borrow.Author.Rules.{rules}
-use lib.ListN.{length, drop}
 use Rattle.bytestrings.proofs.UntilLaws.{until_stop, until_more, until_past}
 use Rattle.attributelines.specs.AttributeLines.{is_blank}
-use Rattle.attributelines.specs.inner.Scan.{blank_length}
 use Rattle.attributelines.proofs.tokens.blanks_end.Goals as goal
 
 pub loop-i-init : goal.loop-i-init

@@ -1,11 +1,7 @@
 -- `attributelines::tokens::blanks_end` meets its contract: the blanks from the start on end where those from the place reached on end.
 use Prim.Native.Nat.{◌+◌, ◌-◌}
-use mathlib.Core.Path.{◌≡◌, refl, sym, ap, ◌∙◌}
-use mathlib.Core.Bool.{not}
-use borrow.Author.Rules.{rules}
+use mathlib.Core.Path.{◌≡◌}
 use lib.ListN.{length, drop}
-use Rattle.bytestrings.proofs.UntilLaws.{until_stop, until_more, until_past}
-use Rattle.attributelines.specs.AttributeLines.{is_blank}
 use Rattle.attributelines.specs.inner.Scan.{blank_length}
 use Rattle.attributelines.proofs.tokens.blanks_end.Given as goal
 

@@ -1,10 +1,6 @@
-use Prim.Native.Nat.{◌+◌, ◌-◌}
-use mathlib.Core.Path.{◌≡◌, refl, sym, ◌∙◌}
-use borrow.Author.Rules.{rules}
-use lib.ListN.{length, drop}
+use mathlib.Core.Path.{refl, sym, ◌∙◌}
 use Rattle.bytestrings.proofs.UntilLaws.{until_stop, until_more, until_past}
 use Rattle.attributelines.specs.AttributeLines.{is_blank}
-use Rattle.attributelines.specs.inner.Scan.{token_length}
 use Rattle.attributelines.proofs.tokens.token_end.Goals as goal
 
 pub loop-i-init : goal.loop-i-init

@@ -1,10 +1,7 @@
 -- `attributelines::tokens::token_end` meets its contract: the token from the start on ends where the one from the place reached on ends.
 use Prim.Native.Nat.{◌+◌, ◌-◌}
-use mathlib.Core.Path.{◌≡◌, refl, sym, ◌∙◌}
-use borrow.Author.Rules.{rules}
+use mathlib.Core.Path.{◌≡◌}
 use lib.ListN.{length, drop}
-use Rattle.bytestrings.proofs.UntilLaws.{until_stop, until_more, until_past}
-use Rattle.attributelines.specs.AttributeLines.{is_blank}
 use Rattle.attributelines.specs.inner.Scan.{token_length}
 use Rattle.attributelines.proofs.tokens.token_end.Given as goal
 

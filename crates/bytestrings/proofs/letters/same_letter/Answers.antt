@@ -1,6 +1,5 @@
 -- `bytestrings::letters::same_letter` meets its contract: folding asks with the lower, then the upper form.
 use Rattle.bytestrings.proofs.LetterLaws.{same_folded, same_upper, same_plain}
-use borrow.Author.Rules.{rules}
 use Rattle.bytestrings.proofs.letters.same_letter.Goals as goal
 
 pub returns-then-to_lower-c : goal.returns-then-to_lower-c

@@ -1,5 +1,4 @@
 -- `bytestrings::letters::to_upper` meets its contract: each return settles the two tests of `upper`.
-use borrow.Author.Rules.{rules}
 use borrow.Author.Tests.{le-leb, lt-leb}
 use Rattle.bytestrings.specs.Text.{char}
 use Rattle.bytestrings.proofs.letters.to_upper.Goals as goal

@@ -1,5 +1,4 @@
 -- `classes::class::is_negated` meets its contract: the sign is the first byte, where there is one.
-use borrow.Author.Rules.{rules}
 use Rattle.classes.proofs.ClassLaws.{sign_none, sign_first, sign_other}
 use Rattle.classes.proofs.class.is_negated.Goals as goal
 

@@ -1,6 +1,5 @@
 -- `classes::class::name_lists` meets its contract: y is tested where the name does not list x, and only if it is another byte.
 use mathlib.Core.Path.{refl, sym, ◌∙◌}
-use borrow.Author.Rules.{rules}
 use Rattle.classes.specs.Members.{lists}
 use Rattle.classes.proofs.class.name_lists.Goals as goal
 

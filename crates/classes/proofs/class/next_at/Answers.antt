@@ -1,7 +1,6 @@
 -- `classes::class::next_at` meets its contract: a `[:` before `plain` is known to begin a plain member, else the member is read.
 use mathlib.Core.Path.{ap, ◌∙◌}
-use borrow.Author.Tests.{eqb-true, leb-true}
-use borrow.Author.Rules.{rules}
+use borrow.Author.Tests.{leb-true}
 use native.Mathlib.Omega.{arith}
 use Rattle.classes.specs.Members.{next_member}
 use Rattle.bytestrings.proofs.SliceLaws.{from-drop}

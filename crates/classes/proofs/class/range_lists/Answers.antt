@@ -1,6 +1,5 @@
 -- `classes::class::range_lists` meets its contract: y is tested where the range does not list x.
 use mathlib.Core.Path.{sym, ◌∙◌}
-use borrow.Author.Rules.{rules}
 use Rattle.classes.proofs.class.range_lists.Goals as goal
 
 pub returns-then-range_has : goal.returns-then-range_has

@@ -1,14 +1,10 @@
-use mathlib.Core.Logic.{⊎_elim}
-use mathlib.Core.Path.{◌≡◌, ap, ◌∙◌}
-use mathlib.Core.Bool.{Bool}
-use Prim.Native.Nat.{ℕ, ◌+◌, ◌-◌, ◌≤◌}
+use mathlib.Core.Path.{ap, ◌∙◌}
+use Prim.Native.Nat.{◌+◌}
 use native.Mathlib.Omega.{arith}
-use lib.ListN.{length}
 use borrow.Author.Rules.{rules}
-use Rattle.classes.specs.Members.{Member, member}
 use Rattle.classes.specs.inner.Scan.{step_of, plain_places, PlainTo}
 use Rattle.classes.proofs.PlainLaws.{plain_none, plain_less, plain-within}
-use Rattle.classes.proofs.ScanLaws.{Left, left_all, left_none, left_close, left_broken, left_size, left_turn, found, found_before, found_now}
+use Rattle.classes.proofs.ScanLaws.{left_all, left_none, left_close, left_broken, left_size, left_turn, found_before, found_now}
 use Rattle.classes.proofs.class.scan_members.Goals as goal
 use Rattle.classes.proofs.class.scan_members.Goals.{else-hit, else-hit-2, else-hit-3, else-hit-4, then-hit, then-hit-2, then-hit-3, then-hit-4}
 
@@ -75,14 +71,14 @@ pub overflow_add-plain : goal.overflow_add-plain
 overflow_add-plain c =
     let e = ap plain_places c.in-Plain.is in
     let plain-found : PlainTo c.args.q.now (c.loop-i.i + 2) (c.loop-i.i + 2 + c.in-Plain.n + 1) =
-        plain_less _ _ _ _ _ (omega arith) (omega arith) c.next_at.ensures.1 in
+    plain_less _ _ _ _ _ (omega arith) (omega arith) c.next_at.ensures.1 in
     let h = plain-within _ _ _ plain-found (omega arith) in omega arith
 
 pub overflow_add-plain-in-Plain : goal.overflow_add-plain-in-Plain
 overflow_add-plain-in-Plain c =
     let e = ap plain_places c.in-Plain.is in
     let plain-found : PlainTo c.args.q.now (c.loop-i.i + 2) (c.loop-i.i + 2 + c.in-Plain.n + 1) =
-        plain_less _ _ _ _ _ (omega arith) (omega arith) c.next_at.ensures.1 in
+    plain_less _ _ _ _ _ (omega arith) (omega arith) c.next_at.ensures.1 in
     let h = plain-within _ _ _ plain-found (omega arith) in omega arith
 
 pub overflow_add-i-in-Plain : goal.overflow_add-i-in-Plain
@@ -99,7 +95,7 @@ pub loop-i-preserved : goal.loop-i-preserved
 loop-i-preserved c =
     let e = ap plain_places c.in-Plain.is in
     let plain-found : PlainTo c.args.q.now (c.loop-i.i + 2) (c.loop-i.i + 2 + c.in-Plain.n + 1) =
-        plain_less _ _ _ _ _ (omega arith) (omega arith) c.next_at.ensures.1 in
+    plain_less _ _ _ _ _ (omega arith) (omega arith) c.next_at.ensures.1 in
     left_turn _ _ _ _ _ _ c.next_at.ensures.0 c.loop-i.invariant.1 _ _ (ap step_of c.in-Plain.is) _ c.loop-i-test.true plain-found _
     (elim c.if-hit-4.branch [ then-hit-4 w ↦ w.hit-is ∙ found_before _ _ _ _ w.if-hit-4.true | else-hit-4 w ↦ w.hit-is ∙ found_now _ _ _ _ w.if-hit-4.false _ w.byte_lists-hit-else-hit-4.ensures ])
 

@@ -1,6 +1,5 @@
 -- `classes::members::read_bracket` meets its contract: each return settles the tests of `bracket_at`.
 use native.Mathlib.Omega.{arith}
-use borrow.Author.Rules.{rules}
 use Rattle.classes.proofs.MemberLaws.{bracket_end, bracket_name, bracket_single}
 use Rattle.classes.proofs.PlainLaws.{plain_none, plain_part}
 use Rattle.classes.proofs.members.read_bracket.Goals as goal

@@ -3,7 +3,6 @@ use mathlib.Core.Path.{sym}
 use Prim.Native.Nat.{◌-◌}
 use native.Mathlib.Omega.{arith}
 use lib.Seq.{length-take-le}
-use borrow.Author.Rules.{rules}
 use Rattle.classes.proofs.MemberLaws.{name_open, name_unknown, name-found}
 use Rattle.classes.proofs.PlainLaws.{plain_none, plain_empty, plain_other}
 use Rattle.classes.proofs.members.read_name.Goals as goal

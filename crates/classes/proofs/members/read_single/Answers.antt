@@ -1,6 +1,5 @@
 -- `classes::members::read_single` meets its contract: each return settles the tests of `single`.
 use mathlib.Core.Path.{refl}
-use borrow.Author.Rules.{rules}
 use Rattle.classes.proofs.MemberLaws.{single_short, single-plain, single-close, single-range, single_open, single_escaped}
 use Rattle.classes.proofs.members.read_single.Goals as goal
 

@@ -1,7 +1,6 @@
 -- `classes::members::until_close` meets its contract: the next `]`, from the start on.
 use mathlib.Core.Path.{◌∙◌}
 use native.Mathlib.Nat.{zero-add}
-use borrow.Author.Rules.{rules}
 use Rattle.classes.specs.Members.{until_close}
 use Rattle.classes.proofs.members.until_close.Goals as goal
 

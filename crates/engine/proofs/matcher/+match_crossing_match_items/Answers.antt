@@ -1,16 +1,11 @@
-use Rattle.engine.proofs.CrossLaws.{Cross, cross_begin, cross_next, cross_matched, cross_decides, cross_end, cross_failed, cross_within}
+use Rattle.engine.proofs.CrossLaws.{cross_begin, cross_next, cross_matched, cross_decides, cross_end, cross_failed, cross_within}
 use Rattle.engine.proofs.MatcherLaws.{means_is, stops_is, skipped-later, next_later}
-use Rattle.engine.proofs.ReachLaws.{Reached, reach_begin, reach_fits, reach-whole, reach_short, reach-failed, reach_end, reach_stop, reach_next, reach-run_fits}
+use Rattle.engine.proofs.ReachLaws.{reach_begin, reach_fits, reach-whole, reach_short, reach-failed, reach_end, reach_stop, reach_next, reach-run_fits}
 use Rattle.engine.proofs.ReachLaws.{reach_star, reach_all, reach_slash, reach-within, leads_fits, leads_slash_fits, leads_is, left_falls}
-use Prim.Native.Nat.{◌+◌, ◌*◌, ◌-◌}
+use Prim.Native.Nat.{◌+◌}
 use mathlib.Core.Path.{◌∙◌, sym}
-use mathlib.Core.Logic.{⊎_elim}
-use mathlib.Core.Bool.{true}
-use lib.ListN.{length, length-take, length-drop}
+use lib.ListN.{length-take, length-drop}
 use native.Mathlib.Omega.{arith}
-use borrow.Author.Rules.{rules}
-use borrow.Author.Tests.{not-true, not-false}
-use Prim.Native.Nat.{ℕ, ◌<◌}
 use Rattle.engine.proofs.matcher.+match_crossing_match_items.Goals as goal
 use Rattle.engine.proofs.matcher.+match_crossing_match_items.Goals.{match_crossing-in-NoMatch, match_crossing-in-AbortToStarStar}
 
@@ -44,8 +39,8 @@ pub match_crossing-loop-k-preserved : goal.match_crossing-loop-k-preserved
 match_crossing-loop-k-preserved t c =
     cross_next _ _ _ _ _ _ c.loop-k.invariant
     (elim c.match-match_items.branch [
-        match_crossing-in-NoMatch w ↦ cross_failed _ _ c.args.t.now c.loop-k.k (means_is _ _ _ _ _ _ w.in-NoMatch.is c.match_items.ensures)
-        | match_crossing-in-AbortToStarStar w ↦ cross_within _ _ c.args.t.now c.loop-k.k (means_is _ _ _ _ _ _ w.in-AbortToStarStar.is c.match_items.ensures)
+      | match_crossing-in-NoMatch w ↦ cross_failed _ _ c.args.t.now c.loop-k.k (means_is _ _ _ _ _ _ w.in-NoMatch.is c.match_items.ensures)
+      | match_crossing-in-AbortToStarStar w ↦ cross_within _ _ c.args.t.now c.loop-k.k (means_is _ _ _ _ _ _ w.in-AbortToStarStar.is c.match_items.ensures)
     ])
     c.after_slash-k.ensures
 

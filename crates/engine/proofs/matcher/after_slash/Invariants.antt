@@ -1,10 +1,7 @@
 -- `engine::matcher::after_slash` meets its contract: no `/` stands between.
-use Rattle.engine.proofs.MatcherLaws.{slash_found, slash_none}
 use Prim.Native.Nat.{ℕ, ◌-◌, ◌≤◌, ◌<◌}
 use mathlib.Core.Path.{◌≡◌}
 use lib.ListN.{length, get_or}
-use native.Mathlib.Omega.{arith}
-use borrow.Author.Count.{below_more}
 use Rattle.bytestrings.specs.Text.{char}
 use Rattle.engine.proofs.matcher.after_slash.Given as goal
 

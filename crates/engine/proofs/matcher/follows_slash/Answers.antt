@@ -1,6 +1,5 @@
 -- `engine::matcher::follows_slash` meets its contract: the byte before the place, or what is known of place 0.
 use Rattle.engine.proofs.MatcherLaws.{after-start, after-later}
-use borrow.Author.Rules.{rules}
 use Rattle.engine.proofs.matcher.follows_slash.Goals as goal
 
 pub returns-then-i-eq0 : goal.returns-then-i-eq0

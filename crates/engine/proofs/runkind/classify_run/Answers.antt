@@ -1,11 +1,9 @@
 -- `engine::runkind::classify_run` meets its contract.
-use mathlib.Core.Bool.{not}
 use Rattle.engine.proofs.RunKindLaws.{leads_plain, leads_within, leads_all, leads_slash, leads_escaped}
 use Rattle.engine.proofs.MatcherLaws.{run_fits}
-use mathlib.Core.Path.{ap, ◌∙◌, sym}
+use mathlib.Core.Path.{◌∙◌, sym}
 use borrow.Author.Tests.{not-true, not-false}
 use native.Mathlib.Omega.{arith}
-use borrow.Author.Rules.{rules}
 use Rattle.engine.proofs.runkind.classify_run.Goals as goal
 
 pub returns-then-not-m : goal.returns-then-not-m

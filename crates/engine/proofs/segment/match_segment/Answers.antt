@@ -1,7 +1,4 @@
-use borrow.Author.Rules.{rules}
-use Rattle.engine.proofs.SegmentLaws.{Along, along_begin, along_fits, along_next, along_run, along_short, along_mismatch, along_whole, along_long}
-use Prim.Native.Nat.{◌-◌}
-use lib.ListN.{length}
+use Rattle.engine.proofs.SegmentLaws.{along_begin, along_fits, along_next, along_run, along_short, along_mismatch, along_whole, along_long}
 use mathlib.Core.Path.{sym, ◌∙◌}
 use native.Mathlib.Omega.{arith}
 use Rattle.engine.proofs.segment.match_segment.Goals as goal

@@ -1,12 +1,5 @@
-use mathlib.Core.Bool.{not}
 use Rattle.engine.proofs.SkipLaws.{passed_begin, passed_next}
-use Rattle.patterns.specs.Items.{taken}
-use Rattle.engine.specs.inner.Outcomes.{Passed}
-use mathlib.Core.Path.{ap, ◌≡◌, sym, ◌∙◌}
-use lib.ListN.{length, get_or}
-use Prim.Native.Nat.{◌-◌}
-use borrow.Author.Tests.{not-false}
-use borrow.Author.Rules.{rules}
+use mathlib.Core.Path.{sym, ◌∙◌}
 use native.Mathlib.Omega.{arith}
 use Rattle.engine.proofs.skip.skip_item.Goals as goal
 

@@ -1,13 +1,9 @@
 -- `engine::skip::skip_item` meets its contract.
-use Rattle.engine.proofs.SkipLaws.{passed_begin, passed_next}
 use Rattle.patterns.specs.Items.{taken}
 use Rattle.engine.specs.inner.Outcomes.{Passed}
-use mathlib.Core.Path.{◌≡◌, sym, ◌∙◌}
+use mathlib.Core.Path.{◌≡◌}
 use lib.ListN.{length, get_or}
 use Prim.Native.Nat.{◌-◌}
-use borrow.Author.Tests.{not-false}
-use borrow.Author.Rules.{rules}
-use native.Mathlib.Omega.{arith}
 use Rattle.engine.proofs.skip.skip_item.Given as goal
 
 abbrev pub invariant-loop-j : goal.invariant-loop-j

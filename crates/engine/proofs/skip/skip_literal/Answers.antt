@@ -1,13 +1,5 @@
 use Rattle.engine.proofs.SkipLaws.{passed_begin, passed_next}
-use Rattle.engine.specs.inner.Outcomes.{Passed}
-use Rattle.bytestrings.specs.Letters.{folded}
-use mathlib.Core.Path.{ap, ◌≡◌, sym, ◌∙◌}
-use mathlib.Core.Bool.{not, false}
-use lib.Dec.{eqb}
-use lib.ListN.{length, get_or}
-use Prim.Native.Nat.{◌-◌}
-use borrow.Author.Tests.{not-false}
-use borrow.Author.Rules.{rules}
+use mathlib.Core.Path.{sym, ◌∙◌}
 use native.Mathlib.Omega.{arith}
 use Rattle.engine.proofs.skip.skip_literal.Goals as goal
 

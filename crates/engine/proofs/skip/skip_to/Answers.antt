@@ -1,7 +1,6 @@
 -- `engine::skip::skip_to` meets its contract: the pattern's first byte shows what may be passed over.
 use Rattle.engine.proofs.SkipLaws.{skipped_none, skipped_empty, skipped-literal, skipped-item}
 use mathlib.Core.Path.{sym, ◌∙◌}
-use borrow.Author.Rules.{rules}
 use Rattle.engine.proofs.skip.skip_to.Goals as goal
 
 pub returns-then-p-eq0 : goal.returns-then-p-eq0

@@ -1,5 +1,4 @@
 -- `entries::prefilter::ends_in` meets its contract: there is no last byte, or it is the same letter.
-use borrow.Author.Rules.{rules}
 use Rattle.entries.proofs.PrefilterLaws.{taken_nil, taken_some}
 use Rattle.entries.proofs.prefilter.ends_in.Goals as goal
 

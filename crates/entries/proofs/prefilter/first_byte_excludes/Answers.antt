@@ -1,5 +1,4 @@
 -- `entries::prefilter::first_byte_excludes` meets its contract: it answers yes only for a literal that does not accept the first byte.
-use borrow.Author.Rules.{rules}
 use Rattle.entries.proofs.PrefilterLaws.{differs_none, differs_first}
 use Rattle.entries.proofs.prefilter.first_byte_excludes.Goals as goal
 

@@ -1,7 +1,6 @@
 -- `entries::prefilter::last_byte_excludes` meets its contract: it answers yes only where every test before has failed.
 use mathlib.Core.Path.{refl, sym, ◌∙◌}
 use Rattle.entries.proofs.PrefilterLaws.{excludes_none, excludes_last}
-use borrow.Author.Rules.{rules}
 use Rattle.entries.proofs.prefilter.last_byte_excludes.Goals as goal
 
 pub returns-then-n-eq0 : goal.returns-then-n-eq0

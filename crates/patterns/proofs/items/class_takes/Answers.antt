@@ -3,7 +3,6 @@ use mathlib.Core.Bool.{not}
 use mathlib.Core.Path.{ap}
 use Rattle.patterns.proofs.ItemLaws.{class_outside, class_bad, class_read, class_fits}
 use native.Mathlib.Omega.{arith}
-use borrow.Author.Rules.{rules}
 use Rattle.patterns.proofs.items.class_takes.Goals as goal
 
 pub returns-then-not-is_inside : goal.returns-then-not-is_inside

@@ -1,7 +1,6 @@
 -- `patterns::items::item_takes` meets its contract: a literal that is the byte itself is taken; else the general case.
 use Rattle.patterns.proofs.ItemLaws.{taken_nil, taken-plain}
 use mathlib.Core.Path.{sym, ◌∙◌}
-use borrow.Author.Rules.{rules}
 use Rattle.patterns.proofs.items.item_takes.Goals as goal
 
 pub returns-then-p-eq0 : goal.returns-then-p-eq0

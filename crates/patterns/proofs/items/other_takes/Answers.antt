@@ -1,6 +1,5 @@
 -- `patterns::items::other_takes` meets its contract: one law for each kind of item.
 use Rattle.patterns.proofs.ItemLaws.{taken_nil, taken-broken, taken_escaped, taken_any, taken_star, taken_class, taken-literal}
-use borrow.Author.Rules.{rules}
 use Rattle.patterns.proofs.items.other_takes.Goals as goal
 
 pub returns-then-p-eq0 : goal.returns-then-p-eq0

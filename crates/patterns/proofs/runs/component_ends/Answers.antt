@@ -1,6 +1,5 @@
 -- `patterns::runs::component_ends` meets its contract: the first two bytes decide.
 use Rattle.patterns.proofs.RunLaws.{ends_nil, ends_slash_lem, ends_escaped, ends_not}
-use borrow.Author.Rules.{rules}
 use Rattle.patterns.proofs.runs.component_ends.Goals as goal
 
 pub returns-then-p-eq0 : goal.returns-then-p-eq0

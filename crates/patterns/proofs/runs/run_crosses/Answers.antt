@@ -3,7 +3,6 @@ use mathlib.Core.Bool.{not}
 use mathlib.Core.Path.{ap}
 use Rattle.patterns.proofs.RunLaws.{crosses_not_after, crosses-single, crosses_two_or_more}
 use native.Mathlib.Omega.{arith}
-use borrow.Author.Rules.{rules}
 use Rattle.patterns.proofs.runs.run_crosses.Goals as goal
 
 pub returns-then-not-after : goal.returns-then-not-after

@@ -1,8 +1,4 @@
 use Rattle.patterns.proofs.RunLaws.{stars-start, stars_stop, stars_more, stars_end}
-use Rattle.patterns.specs.Patterns.{stars}
-use mathlib.Core.Path.{◌≡◌}
-use Prim.Native.Nat.{◌+◌, ◌-◌, ◌≤◌}
-use lib.ListN.{length, drop}
 use native.Mathlib.Omega.{arith}
 use Rattle.patterns.proofs.runs.star_count.Goals as goal
 

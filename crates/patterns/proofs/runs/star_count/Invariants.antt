@@ -1,10 +1,8 @@
 -- `patterns::runs::star_count` meets its contract: the stars of the pattern are those counted and those of the rest.
-use Rattle.patterns.proofs.RunLaws.{stars-start, stars_stop, stars_more, stars_end}
 use Rattle.patterns.specs.Patterns.{stars}
 use mathlib.Core.Path.{◌≡◌}
 use Prim.Native.Nat.{◌+◌, ◌-◌, ◌≤◌}
 use lib.ListN.{length, drop}
-use native.Mathlib.Omega.{arith}
 use Rattle.patterns.proofs.runs.star_count.Given as goal
 
 abbrev pub invariant-loop-i : goal.invariant-loop-i

@@ -1,6 +1,5 @@
 -- `patterns::runs::starts_slash` meets its contract: the first byte decides.
 use Rattle.patterns.proofs.RunLaws.{slash_nil, slash_cons}
-use borrow.Author.Rules.{rules}
 use Rattle.patterns.proofs.runs.starts_slash.Goals as goal
 
 pub returns-then-p-eq0 : goal.returns-then-p-eq0

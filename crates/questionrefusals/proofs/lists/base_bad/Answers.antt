@@ -1,7 +1,6 @@
 -- `questionrefusals::lists::base_bad` meets its contract: each test is one case of a good base.
 use Rattle.questionrefusals.proofs.ListLaws.{base_top, base_past, base-within}
 use Rattle.bytestrings.proofs.BoolLaws.{yes_iff, no_iff}
-use borrow.Author.Rules.{rules}
 use Rattle.questionrefusals.proofs.lists.base_bad.Goals as goal
 
 pub returns-then-base-eq0 : goal.returns-then-base-eq0

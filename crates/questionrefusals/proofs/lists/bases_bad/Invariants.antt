@@ -1,12 +1,7 @@
 -- `questionrefusals::lists::bases_bad` meets its contract. The bases not yet passed say the same as all.
 use Rattle.questionrefusals.specs.Conditions.{BaseMisplaced}
-use Rattle.questionrefusals.proofs.ListLaws.{base_here, base_good, base_none}
-use Rattle.bytestrings.proofs.BoolLaws.{yes_iff, no_iff, not_if_false}
-use mathlib.Core.Logic.Iff
 use mathlib.Core.Logic.{◌↔◌}
-use borrow.Author.Rules.{rules}
 use Prim.Native.Nat.{◌-◌}
-use native.Mathlib.Omega.{arith}
 use lib.ListN.{length, drop}
 use Rattle.questionrefusals.proofs.lists.bases_bad.Given as goal
 

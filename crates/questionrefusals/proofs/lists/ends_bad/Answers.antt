@@ -1,10 +1,7 @@
-use Rattle.questionrefusals.proofs.ListLaws.{EndsSo, ends_begin, ends_next, ends_fall, ends_end}
+use Rattle.questionrefusals.proofs.ListLaws.{ends_begin, ends_next, ends_fall, ends_end}
 use Rattle.bytestrings.proofs.BoolLaws.{yes_iff}
 use mathlib.Core.Logic.{inl}
-use borrow.Author.Rules.{rules}
-use Prim.Native.Nat.{◌-◌}
 use native.Mathlib.Omega.{arith}
-use lib.ListN.{length}
 use Rattle.questionrefusals.proofs.lists.ends_bad.Goals as goal
 
 pub loop-i-init : goal.loop-i-init

@@ -1,10 +1,6 @@
 -- `questionrefusals::lists::ends_bad` meets its contract. The ends not yet passed, behind the last one passed, say the same as all.
-use Rattle.questionrefusals.proofs.ListLaws.{EndsSo, ends_begin, ends_next, ends_fall, ends_end}
-use Rattle.bytestrings.proofs.BoolLaws.{yes_iff}
-use mathlib.Core.Logic.{inl}
-use borrow.Author.Rules.{rules}
+use Rattle.questionrefusals.proofs.ListLaws.{EndsSo}
 use Prim.Native.Nat.{◌-◌}
-use native.Mathlib.Omega.{arith}
 use lib.ListN.{length}
 use Rattle.questionrefusals.proofs.lists.ends_bad.Given as goal
 

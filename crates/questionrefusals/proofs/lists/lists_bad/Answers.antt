@@ -3,7 +3,6 @@ use Rattle.questionrefusals.specs.Conditions.{BadLists}
 use Rattle.questionrefusals.proofs.ListLaws.{lists-ends, lists-bases}
 use Rattle.bytestrings.proofs.BoolLaws.{yes_iff, not_if_false}
 use mathlib.Core.Logic.{inl, inr}
-use borrow.Author.Rules.{rules}
 use Rattle.questionrefusals.proofs.lists.lists_bad.Goals as goal
 
 pub returns-then-ends-bases : goal.returns-then-ends-bases

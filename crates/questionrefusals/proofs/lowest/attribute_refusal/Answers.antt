@@ -8,7 +8,6 @@ use Rattle.questionrefusals.proofs.QuestionLaws.{attribute_found}
 use mathlib.Core.Path.{refl}
 use mathlib.Core.Logic.{inl, inr}
 use Rattle.attributenames.specs.Names.{BadName}
-use borrow.Author.Rules.{rules}
 use Rattle.questionrefusals.proofs.lowest.attribute_refusal.Goals as goal
 
 pub returns-then-first-ne0 : goal.returns-then-first-ne0

@@ -7,7 +7,6 @@ use Rattle.refusals.proofs.LowestLaws.{holding_first, holding_second}
 use Rattle.questionrefusals.proofs.QuestionLaws.{ignore_found}
 use mathlib.Core.Path.{refl}
 use mathlib.Core.Logic.{inl, inr}
-use borrow.Author.Rules.{rules}
 use Rattle.questionrefusals.proofs.lowest.ignore_refusal.Goals as goal
 
 pub returns-then-lent-ne0 : goal.returns-then-lent-ne0

@@ -3,7 +3,6 @@ use Rattle.questionrefusals.specs.inner.Checks.{LentFirstHolding}
 use Rattle.bytestrings.proofs.BoolLaws.{not_if_false}
 use mathlib.Core.Path.{refl}
 use mathlib.Core.Logic.{inl, inr}
-use borrow.Author.Rules.{rules}
 use Rattle.questionrefusals.proofs.lowest.lent_refusal.Goals as goal
 
 pub returns-then-path_bad : goal.returns-then-path_bad

@@ -1,9 +1,5 @@
 use Rattle.questionrefusals.proofs.LongLaws.{newline_other}
-use Prim.Native.Nat.{ℕ, ◌-◌, ◌<◌, ◌≤◌}
-use mathlib.Core.Path.{◌≡◌}
 use native.Mathlib.Omega.{arith}
-use lib.ListN.{get_or}
-use Rattle.bytestrings.specs.Text.{newline}
 use Rattle.questionrefusals.proofs.rules.after_newline.Goals as goal
 
 pub loop-i-init : goal.loop-i-init

@@ -1,8 +1,6 @@
 -- `refusals::rules::after_newline` meets its contract. No newline stands between the place reached and the end.
-use Rattle.questionrefusals.proofs.LongLaws.{newline_other}
 use Prim.Native.Nat.{ℕ, ◌-◌, ◌<◌, ◌≤◌}
 use mathlib.Core.Path.{◌≡◌}
-use native.Mathlib.Omega.{arith}
 use lib.ListN.{get_or}
 use Rattle.bytestrings.specs.Text.{newline}
 use Rattle.questionrefusals.proofs.rules.after_newline.Given as goal

@@ -1,16 +1,11 @@
-use Rattle.questionrefusals.specs.Conditions.{LongLine}
 use Rattle.questionrefusals.specs.inner.Scans.{LongIn}
-use Rattle.questionrefusals.proofs.LongLaws.{LongFiles, files_begin, files_past, files_bare, file_long, file_fine}
+use Rattle.questionrefusals.proofs.LongLaws.{files_begin, files_past, files_bare, file_long, file_fine}
 use Rattle.bytestrings.proofs.BoolLaws.{yes_iff, no_iff, not_if_false}
-use Rattle.rulefiles.specs.RuleFiles.{files_from}
 use mathlib.Core.Path.{subst, sym}
 use mathlib.Core.List.{List}
 use mathlib.Core.Logic.Iff
-use mathlib.Core.Logic.{◌↔◌}
-use borrow.Author.Rules.{rules}
-use Prim.Native.Nat.{ℕ, ◌-◌}
+use Prim.Native.Nat.{ℕ}
 use native.Mathlib.Omega.{arith}
-use lib.ListN.{length, drop}
 use Rattle.questionrefusals.proofs.rules.line_long.Goals as goal
 
 pub loop-i-init : goal.loop-i-init

@@ -1,16 +1,9 @@
 -- `refusals::rules::line_long` meets its contract. The files not yet passed decide.
 use Rattle.questionrefusals.specs.Conditions.{LongLine}
-use Rattle.questionrefusals.specs.inner.Scans.{LongIn}
-use Rattle.questionrefusals.proofs.LongLaws.{LongFiles, files_begin, files_past, files_bare, file_long, file_fine}
-use Rattle.bytestrings.proofs.BoolLaws.{yes_iff, no_iff, not_if_false}
+use Rattle.questionrefusals.proofs.LongLaws.{LongFiles}
 use Rattle.rulefiles.specs.RuleFiles.{files_from}
-use mathlib.Core.Path.{subst, sym}
-use mathlib.Core.List.{List}
-use mathlib.Core.Logic.Iff
 use mathlib.Core.Logic.{◌↔◌}
-use borrow.Author.Rules.{rules}
-use Prim.Native.Nat.{ℕ, ◌-◌}
-use native.Mathlib.Omega.{arith}
+use Prim.Native.Nat.{◌-◌}
 use lib.ListN.{length, drop}
 use Rattle.questionrefusals.proofs.rules.line_long.Given as goal
 

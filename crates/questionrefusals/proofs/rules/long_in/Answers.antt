@@ -1,11 +1,7 @@
-use Rattle.questionrefusals.specs.inner.Scans.{LongIn}
 use Rattle.questionrefusals.proofs.LongLaws.{long_over, long_here, long_skip}
 use Rattle.bytestrings.proofs.BoolLaws.{yes_iff, no_iff}
 use mathlib.Core.Logic.Iff
-use mathlib.Core.Logic.{◌↔◌}
-use Prim.Native.Nat.{◌-◌, ◌≤◌}
 use native.Mathlib.Omega.{arith}
-use lib.ListN.{length, drop}
 use Rattle.questionrefusals.proofs.rules.long_in.Goals as goal
 
 pub loop-at-init : goal.loop-at-init
