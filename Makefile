@@ -2,6 +2,7 @@
 #
 #   make demo                 the loader over the sample archive, compared with examples/expected.txt
 #   make whichline            the command-line program; bin/whichline runs it
+#   make archives             libfidshore.a, and libtestcalls.a for the outside tests, into target/staticlib
 #   make test                 the gate
 #   make bench                times beside git and fnmatch: tables, and a picture in target/bench; whichline beside git over a listing
 #   make install PREFIX=...   the archive, the header, a pkg-config file and whichline
@@ -20,7 +21,7 @@ made = target/demo
 prefix = $(abspath $(PREFIX))
 place = $(DESTDIR)$(prefix)
 
-.PHONY: demo whichline test bench install clean
+.PHONY: demo whichline archives test bench install clean
 
 # Compiled each time, so that it is never the loader of another archive. One path of the listing is refused, so it must end with status 1.
 demo: $(archive)
@@ -32,6 +33,13 @@ demo: $(archive)
 	@echo "demo: as expected"
 
 whichline: $(program)
+
+# Proved and built in its crate's folder, and copied from there, since `rt ci` empties those folders.
+archive_of = cd crates/$(1) && rt lib && install -D -m 644 out/lib$(1).a ../../target/staticlib/lib$(1).a
+
+archives:
+	$(call archive_of,fidshore)
+	$(call archive_of,testcalls)
 
 test:
 	.ci/run
@@ -52,9 +60,10 @@ install: $(archive) $(program)
 clean:
 	rm -rf $(made)
 
-# Only if they are not there; after a change of the crates run these by hand, or `make test`.
+# Only if they are not there; after a change of the crates `make archives` and `make -B whichline`, or `make test`.
 target/staticlib/libfidshore.a:
-	rt staticlib fidshore
+	$(call archive_of,fidshore)
 
+# `rt run` proves, builds and then runs: here it asks for help.
 $(program):
-	rt check whichline
+	cd crates/whichline && rt run -- --help > /dev/null && install -D -m 755 out/whichline ../../$(program)

@@ -108,7 +108,8 @@ module _ (s : List ℕ) (at : ℕ) where
       go false q ih = ih (omega arith)
 
   -- no `=`: set
-  pub state-set : (end : ℕ) → at < length s → (get_or s at 0 ≡ char "-" → ⊥) → (get_or s at 0 ≡ char "!" → ⊥) → end ≡ at + name_length (drop at s) → end ≡ length s → Set ≡ (mention at (drop at s)).state
+  pub state-set : (end : ℕ) → at < length s → (get_or s at 0 ≡ char "-" → ⊥) → (get_or s at 0 ≡ char "!" → ⊥) → end ≡ at + name_length (drop at s) →
+      end ≡ length s → Set ≡ (mention at (drop at s)).state
   unfolding plain_mention
   state-set end h n m e q =
       let l : length (drop at s) ≡ length s - at = length-drop at s in

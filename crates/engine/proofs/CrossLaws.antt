@@ -48,7 +48,8 @@ module _ (m : Mode) (here : Bool) (p t : List ℕ) where
   at_slash : (k : ℕ) → k ≤ length t → Spot here t k → tail_matches m true p (drop k t) ≡ true → slash_then m here p t ≡ true
   unfolding slash_then
   at_slash k l (inl s) e = rw (s.1, subst (λ (n : ℕ). tail_matches m true p (drop n t) ≡ true) s.0 e) refl
-  at_slash k l (inr s) e = rw (at_run (λ x. true) (one_then (λ x. eqb x (char "/")) (tail_matches m true p)) t (k - 1) (omega arith) (λ j d. refl) taken_slash) (or-true (here && tail_matches m true p t))
+  at_slash k l (inr s) e = rw (at_run (λ x. true) (one_then (λ x. eqb x (char "/")) (tail_matches m true p)) t (k - 1) (omega arith) (λ j d. refl) taken_slash)
+      (or-true (here && tail_matches m true p t))
     where
       taken_slash : one_then (λ x. eqb x (char "/")) (tail_matches m true p) (drop (k - 1) t) ≡ true
       taken_slash = let a : suc (k - 1) ≡ k = omega (arith, s.0) in rw (drop-cons t (k - 1) 0 (omega (arith, s.0)), s.1, a) e

@@ -56,7 +56,8 @@ shifted : (m : Mode) (it : Item) (after : Bool) (x : ℕ) (u : List ℕ) (r : Ou
 shifted m it after x u Matched k a b w = w
 shifted m it after x u NoMatch k a b w = w
 shifted m it after x u AbortToStarStar k a b w = λ j l.
-    ⊎_elim (λ h. w (suc j) h) (λ h. let e : suc j ≡ k = omega arith in subst (λ (n : ℕ). inside m (get_or (x ∷ u) n 0) ≡ true) (sym e) (accepts-inside m it x (get_or (x ∷ u) k 0) (w 0 (omega arith)) a b))
+    ⊎_elim (λ h. w (suc j) h) (λ h. let e : suc j ≡ k = omega arith in subst (λ (n : ℕ). inside m (get_or (x ∷ u) n 0) ≡ true) (sym e)
+    (accepts-inside m it x (get_or (x ∷ u) k 0) (w 0 (omega arith)) a b))
     (before_or_not (suc j) k)
 shifted m it after x u AbortAll k a b w = go (ends_slash it) refl k b
   where
@@ -208,7 +209,8 @@ module _ (m : Mode) (p t : List ℕ) where
   pub along_mismatch : (i j : ℕ) → Along i j → i < length p → j < length t → (get_or p i 0 ≡ char "*" → ⊥) → 0 ≡ taken m (from i p) (get_or t j 0) → Stops m p t Mismatch
   unfolding Stops
   along_mismatch i j a k l h e after = a.2 after NoMatch (failed m (after_at after p i) _ (drop j t)
-      (mismatch m (after_at after p i) (drop i p) (drop j t) (rw length-drop (omega arith)) (rw length-drop (omega arith)) (λ w. h (front i p w)) (e ∙ ap₂ (taken m) (from-drop i p) (sym (first j t)))))
+      (mismatch m (after_at after p i) (drop i p) (drop j t) (rw length-drop (omega arith)) (rw length-drop (omega arith))
+      (λ w. h (front i p w)) (e ∙ ap₂ (taken m) (from-drop i p) (sym (first j t)))))
 
   pub along_whole : (i j : ℕ) → Along i j → length p ≤ i → j ≡ length t → Stops m p t Whole
   unfolding Stops Means

@@ -39,7 +39,8 @@ module _ (path rules ends bases name : List ℕ) (flags : ℕ) where
   unfolding ignore_answer
   ignore_cut earlier later h =
       ap (λ (ls : List Line). top_down (verdict (folds flags) ls) (parents path) (path_entry path flags)) h
-      ∙ same_visited (joined_verdict (folds flags) earlier later) (verdict (folds flags) (earlier ++ later)) (parents path) (path_entry path flags) (λ e m. joined-verdict (folds flags) earlier later e)
+      ∙ same_visited (joined_verdict (folds flags) earlier later) (verdict (folds flags) (earlier ++ later))
+      (parents path) (path_entry path flags) (λ e m. joined-verdict (folds flags) earlier later e)
 
   attribute_cut : (earlier later : List Line) → ordered_lines rules ends bases ≡ earlier ++ later
       → attribute_answer path rules ends bases name flags ≡ state_answer (joined_state (folds flags) name earlier later (path_entry path flags))

@@ -149,7 +149,8 @@ module _ (rules ends bases : List ℕ) (start i : ℕ) where
           )
 
 -- The scan for a newline from the end back.
-pub newline_other : (s : List ℕ) (end i : ℕ) → 0 < i → (get_or s (i - 1) 0 ≡ newline → ⊥) → ((k : ℕ) → k < end → i ≤ k → get_or s k 0 ≡ newline → ⊥) → (k : ℕ) → k < end → i - 1 ≤ k → get_or s k 0 ≡ newline
+pub newline_other : (s : List ℕ) (end i : ℕ) → 0 < i → (get_or s (i - 1) 0 ≡ newline → ⊥) → ((k : ℕ) → k < end → i ≤ k → get_or s k 0 ≡ newline → ⊥) →
+    (k : ℕ) → k < end → i - 1 ≤ k → get_or s k 0 ≡ newline
     → ⊥
 newline_other s end i p n f k l h e =
     ⊎_elim (λ b. let q : k ≡ i - 1 = omega arith in n (ap (λ (j : ℕ). get_or s j 0) (sym q) ∙ e)) (λ b. f k l b e) (before_or_not k i)

@@ -15,4 +15,5 @@ override_none (some x) = refl
 
 pub last_append : {A : Type 0} (effect : Line → Option A) (xs ys : List Line) → last_decision effect (xs ++ ys) ≡ override (last_decision effect xs) (last_decision effect ys)
 last_append effect [] ys = sym (override_none (last_decision effect ys))
-last_append effect (x ∷ xs) ys = ap (override (decision_by x (effect x))) (last_append effect xs ys) ∙ sym (override_assoc (decision_by x (effect x)) (last_decision effect xs) (last_decision effect ys))
+last_append effect (x ∷ xs) ys = ap (override (decision_by x (effect x))) (last_append effect xs ys)
+    ∙ sym (override_assoc (decision_by x (effect x)) (last_decision effect xs) (last_decision effect ys))

@@ -56,7 +56,8 @@ module _ {A : Type 0} (effect : Line → Option A) (effect_at : Subject → ℕ 
       → after ≡ override before (last_in_file (effect_at (against (from (get_or bases k 0) entry) (from at entry) directory fold)) k (take (get_or ends k 0) rules) start)
       → after ≡ override before (last_decision effect (lines_of (file_at rules ends bases k start)))
   file-applies k start at before after h e q =
-      q ∙ ap (override before) (sym (file-decided effect (effect_at (against (from (get_or bases k 0) entry) (from at entry) directory fold)) (file_at rules ends bases k start) (get_or ends k 0) rules refl
+      q ∙ ap (override before) (sym (file-decided effect (effect_at (against (from (get_or bases k 0) entry) (from at entry) directory fold))
+      (file_at rules ends bases k start) (get_or ends k 0) rules refl
       (λ n m b. reads (record { file = k; number = n; base = get_or bases k 0; start = m; bytes = b })
       ∙ rw (applies_yes (get_or bases k 0) entry directory h, subject_from (get_or bases k 0) at entry directory fold e))))
 

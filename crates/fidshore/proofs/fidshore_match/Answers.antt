@@ -3,4 +3,4 @@ use borrow.Author.Rules.{rules}
 use Rattle.fidshore.proofs.fidshore_match.Goals as goal
 
 pub returns : goal.returns
-returns c = record { answer = c.wildmatch.result; answered = c.wildmatch.ensures; coded = c.code_of_lem.ensures }
+returns c = record { answer = c.wildmatch.result; answered = c.wildmatch.ensures; coded = c.code_of.ensures }

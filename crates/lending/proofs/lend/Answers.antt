@@ -16,7 +16,7 @@ pub returns-then-directory_ends-i : goal.returns-then-directory_ends-i
 returns-then-directory_ends-i c =
     let a = c.args in
     taken_holds _ _ _ _ _ _ c.loop-i.invariant.1.0 (c.loop-i.invariant.0.1
-    ∙ pending_short a.path.now a.directories.now a.directory-ends.now a.files.now a.file-ends.now c.loop-i.directory-start c.loop-i.file-start
+    ∙ pending_short a.path.now a.directories.now a.directory_ends.now a.files.now a.file_ends.now c.loop-i.directory_start c.loop-i.file_start
     c.loop-i.i _ c.if-directory_ends-i.true c.loop-i-test.true)
 
 pub lend_file-step-requires : goal.lend_file-step-requires
@@ -26,7 +26,7 @@ lend_file-step-requires c =
 pub returns-in-Full : goal.returns-in-Full
 returns-in-Full c =
     let a = c.args in
-    turn_full a.path.now a.directories.now a.directory-ends.now a.files.now a.file-ends.now c.loop-i.directory-start c.loop-i.file-start c.loop-i.i _ _
+    turn_full a.path.now a.directories.now a.directory_ends.now a.files.now a.file_ends.now c.loop-i.directory_start c.loop-i.file_start c.loop-i.i _ _
     _ _ _ _ _ _ _ c.loop-i.invariant.0.1 (omega (arith, c.if-directory_ends-i.false)) c.loop-i-test.true c.file_part.ensures c.file_part-in-loop-i.ensures
     c.lend_file-step.ensures c.in-Full.is
 
@@ -38,7 +38,7 @@ pub loop-i-preserved : goal.loop-i-preserved
 loop-i-preserved c =
     let a = c.args in
     let k = c.lend_file-step.auto.1.1.1.1.1 in
-    let t = turn_done a.path.now a.directories.now a.directory-ends.now a.files.now a.file-ends.now c.loop-i.directory-start c.loop-i.file-start
+    let t = turn_done a.path.now a.directories.now a.directory_ends.now a.files.now a.file_ends.now c.loop-i.directory_start c.loop-i.file_start
     c.loop-i.i _ _ _ _ _ _ _ _ _ c.loop-i.invariant.0.1 (omega (arith, c.if-directory_ends-i.false)) c.loop-i-test.true c.file_part.ensures
     c.file_part-in-loop-i.ensures c.lend_file-step.ensures _ c.in-Done.is in
     let i = c.loop-i.invariant.1.1 in
@@ -48,5 +48,5 @@ pub returns : goal.returns
 returns c =
     let a = c.args in
     taken_holds _ _ _ _ _ _ c.loop-i.invariant.1.0 (c.loop-i.invariant.0.1
-    ∙ pending_end a.path.now a.directories.now a.directory-ends.now a.files.now a.file-ends.now c.loop-i.directory-start c.loop-i.file-start c.loop-i.i
+    ∙ pending_end a.path.now a.directories.now a.directory_ends.now a.files.now a.file_ends.now c.loop-i.directory_start c.loop-i.file_start c.loop-i.i
     _ c.loop-i-test.false)

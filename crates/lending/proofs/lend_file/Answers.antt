@@ -13,7 +13,7 @@ pub returns-then-not-stands_above : goal.returns-then-not-stands_above
 returns-then-not-stands_above c =
     let a = c.args in
     not_lent a.path.now a.number a.directory.now a.file.now a.lent a.rules.now a.ends.now a.bases.now a.numbers.now c.requires
-    (sym c.stands_above.ensures ∙ not-true c.stands_above.result c.if-not-stands_above.true)
+    (sym c.stands_above.ensures ∙ c.if-not-stands_above.true)
 
 pub overflow_sub-rules : goal.overflow_sub-rules
 unfolding Within
@@ -24,44 +24,32 @@ pub returns-then-rules-at : goal.returns-then-rules-at
 returns-then-rules-at c =
     let a = c.args in
     no_rules a.path.now a.number a.directory.now a.file.now a.lent a.rules.now a.ends.now a.bases.now a.numbers.now c.requires
-    (sym c.stands_above.ensures ∙ not-false c.stands_above.result c.if-not-stands_above.false) c.if-rules-at.true
+    (sym c.stands_above.ensures ∙ c.if-not-stands_above.false) c.if-rules-at.true
 
 pub returns-then-ends-n : goal.returns-then-ends-n
 returns-then-ends-n c =
     let a = c.args in
     no_ends a.path.now a.number a.directory.now a.file.now a.lent a.rules.now a.ends.now a.bases.now a.numbers.now c.requires
-    (sym c.stands_above.ensures ∙ not-false c.stands_above.result c.if-not-stands_above.false) c.if-ends-n.true
+    (sym c.stands_above.ensures ∙ c.if-not-stands_above.false) c.if-ends-n.true
 
 pub returns-then-bases-n : goal.returns-then-bases-n
 returns-then-bases-n c =
     let a = c.args in
     no_bases a.path.now a.number a.directory.now a.file.now a.lent a.rules.now a.ends.now a.bases.now a.numbers.now c.requires
-    (sym c.stands_above.ensures ∙ not-false c.stands_above.result c.if-not-stands_above.false) c.if-bases-n.true
+    (sym c.stands_above.ensures ∙ c.if-not-stands_above.false) c.if-bases-n.true
 
 pub returns-then-numbers-n : goal.returns-then-numbers-n
 returns-then-numbers-n c =
     let a = c.args in
     no_numbers a.path.now a.number a.directory.now a.file.now a.lent a.rules.now a.ends.now a.bases.now a.numbers.now c.requires
-    (sym c.stands_above.ensures ∙ not-false c.stands_above.result c.if-not-stands_above.false) c.if-numbers-n.true
-    -- LOST overflow-sub-copy: let at-if2 = c.before.before.before in
-    let at-stands-above = at-if2.before.before in
-    let at-slice-known2 = at-stands-above.before.before.before in
-    let at-shared-slice-known2 = at-slice-known2.before.before.before in
-    let at-start = at-shared-slice-known2.before.before in
-    omega (arith, at-start.requires.0)
-    -- LOST slice-bounds-copy-start: let at-if2 = c.before.before.before in
-    let at-stands-above = at-if2.before.before in
-    let at-slice-known2 = at-stands-above.before.before.before in
-    let at-shared-slice-known2 = at-slice-known2.before.before.before in
-    let at-start = at-shared-slice-known2.before.before in
-    omega (arith, at-start.requires.0)
+    (sym c.stands_above.ensures ∙ c.if-not-stands_above.false) c.if-numbers-n.true
 
 pub returns : goal.returns
 unfolding Within
 returns c =
     let a = c.args in
     let room : a.lent.bytes + length a.file.now ≤ length a.rules.now = omega (arith, c.requires.0, c.if-rules-at.false) in
-    let up = sym c.stands_above.ensures ∙ not-false c.stands_above.result c.if-not-stands_above.false in
+    let up = sym c.stands_above.ensures ∙ c.if-not-stands_above.false in
     let more = lent_more a.path.now a.number a.directory.now a.file.now a.lent a.rules.now a.ends.now a.bases.now a.numbers.now c.requires up
     room (omega (arith, c.if-ends-n.false)) (omega (arith, c.if-bases-n.false)) (omega (arith, c.if-numbers-n.false)) in
     rw (c.copy.ensures.1, copied a.lent.bytes a.rules.now a.file.now c.requires.0) more

@@ -23,7 +23,10 @@ pub loop-j-preserved : goal.loop-j-preserved
 loop-j-preserved c =
     let at = c.loop-j.invariant in (
       omega (arith, at.0),
-      elim c.if-bytes-i-eq0.branch [ then-bytes-i-eq0 w ↦ scanned_here Zero _ _ _ _ w.if-bytes-i-eq0.true w.found-is | else-bytes-i-eq0 w ↦ scanned_other Zero _ _ _ _ _ w.if-bytes-i-eq0.false at.1 w.found-is ],
+      elim c.if-bytes-i-eq0.branch [
+        | then-bytes-i-eq0 w ↦ scanned_here Zero _ _ _ _ w.if-bytes-i-eq0.true w.found-is
+        | else-bytes-i-eq0 w ↦ scanned_other Zero _ _ _ _ _ w.if-bytes-i-eq0.false at.1 w.found-is
+      ],
     )
 
 pub returns : goal.returns

@@ -5,4 +5,4 @@ use Rattle.testcalls.proofs.testcalls_match.Goals as goal
 pub returns : goal.returns
 returns c =
     let asked = c.wildmatch-answer in
-    record { answer = asked.result; answered = asked.ensures; numbered = c.code_of_lem.ensures; written = c.put_match.ensures }
+    record { answer = asked.result; answered = asked.ensures; numbered = c.code_of.ensures; written = c.put_match.ensures }
