@@ -1,6 +1,5 @@
 -- `answers::attribute_code` meets its contract: the paper's number for each answer.
 use Rattle.answers.specs.Complete.{complete_attribute}
-use borrow.Author.Rules.{rules}
 use Rattle.answers.proofs.attribute_code.Goals as goal
 
 pub returns-in-Undecided : goal.returns-in-Undecided

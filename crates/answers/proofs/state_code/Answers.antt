@@ -1,6 +1,5 @@
 -- `answers::state_code` meets its contract: the paper's number for each state.
 use Rattle.answers.specs.Complete.{state_number}
-use borrow.Author.Rules.{rules}
 use Rattle.answers.proofs.state_code.Goals as goal
 
 pub returns-in-Set : goal.returns-in-Set

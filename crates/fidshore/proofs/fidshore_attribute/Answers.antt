@@ -1,6 +1,5 @@
 -- `fidshore::fidshore_attribute` meets its contract: the code is the number of what the question answers over the one file.
 use Rattle.answers.specs.Complete.{complete_attribute}
-use borrow.Author.Rules.{rules}
 use Rattle.fidshore.proofs.fidshore_attribute.Goals as goal
 
 pub returns : goal.returns

@@ -1,6 +1,5 @@
 -- `fidshore::fidshore_ignore` meets its contract: the code is the number of what the question answers over the one file.
 use Rattle.answers.specs.Complete.{complete_ignore}
-use borrow.Author.Rules.{rules}
 use Rattle.fidshore.proofs.fidshore_ignore.Goals as goal
 
 pub returns : goal.returns

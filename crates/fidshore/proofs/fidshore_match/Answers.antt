@@ -1,5 +1,4 @@
 -- `fidshore::fidshore_match` meets its contract: the code is that of what the matcher answers.
-use borrow.Author.Rules.{rules}
 use Rattle.fidshore.proofs.fidshore_match.Goals as goal
 
 pub returns : goal.returns

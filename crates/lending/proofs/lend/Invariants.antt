@@ -1,12 +1,10 @@
 -- `lending::lend` meets its contract: what is lent so far, and what of the files is still to come, make up the lists.
-use mathlib.Core.Path.{◌≡◌, refl, ◌∙◌}
+use mathlib.Core.Path.{◌≡◌}
 use Prim.Native.Nat.{◌-◌, ◌≤◌}
-use native.Mathlib.Omega.{arith}
-use borrow.Author.Rules.{rules}
 use lib.ListN.{length}
 use Rattle.lending.specs.Lending.{parts, lists}
 use Rattle.lending.specs.inner.Room.{Within, taken}
-use Rattle.lending.proofs.LendLaws.{pending, pending_end, pending_short, taken_holds, turn_full, turn_done}
+use Rattle.lending.proofs.LendLaws.{pending}
 use Rattle.lending.proofs.lend.Given as goal
 
 abbrev pub invariant-loop-i : goal.invariant-loop-i

@@ -1,12 +1,12 @@
 -- `lending::lend_file` meets its contract: the file does not stand above the path, or one of the buffers has no room, or it is lent.
-use mathlib.Core.Path.{sym, ◌∙◌}
-use Prim.Native.Nat.{◌+◌, ◌≤◌}
+use Rattle.std.proofs.lemmas.Slice.{put_mid-paste}
+use mathlib.Core.Path.{refl, sym, ◌∙◌}
+use Prim.Native.Nat.{◌+◌, ◌-◌, ◌≤◌}
 use native.Mathlib.Omega.{arith}
 use borrow.Author.Rules.{rules}
-use borrow.Author.Tests.{not-true, not-false}
 use lib.ListN.{length}
 use Rattle.lending.specs.inner.Room.{Within}
-use Rattle.lending.proofs.LendLaws.{not_lent, no_rules, no_ends, no_bases, no_numbers, copied, lent_more}
+use Rattle.lending.proofs.LendLaws.{not_lent, no_rules, no_ends, no_bases, no_numbers, lent_more}
 use Rattle.lending.proofs.lend_file.Goals as goal
 
 pub returns-then-not-stands_above : goal.returns-then-not-stands_above
@@ -44,6 +44,13 @@ returns-then-numbers-n c =
     no_numbers a.path.now a.number a.directory.now a.file.now a.lent a.rules.now a.ends.now a.bases.now a.numbers.now c.requires
     (sym c.stands_above.ensures ∙ c.if-not-stands_above.false) c.if-numbers-n.true
 
+pub slice_bounds-copy_from_slice-end : goal.slice_bounds-copy_from_slice-end
+unfolding Within
+slice_bounds-copy_from_slice-end c =
+    let a = c.args in
+    let room : a.lent.bytes + length a.file.now ≤ length a.rules.now = omega (arith, c.requires.0, c.if-rules-at.false) in
+    search rules
+
 pub returns : goal.returns
 unfolding Within
 returns c =
@@ -52,4 +59,4 @@ returns c =
     let up = sym c.stands_above.ensures ∙ c.if-not-stands_above.false in
     let more = lent_more a.path.now a.number a.directory.now a.file.now a.lent a.rules.now a.ends.now a.bases.now a.numbers.now c.requires up
     room (omega (arith, c.if-ends-n.false)) (omega (arith, c.if-bases-n.false)) (omega (arith, c.if-numbers-n.false)) in
-    rw (c.copy.ensures.1, copied a.lent.bytes a.rules.now a.file.now c.requires.0) more
+    rw (put_mid-paste a.lent.bytes (a.lent.bytes + length a.file.now - a.lent.bytes) a.rules.now c.copy_from_slice.new.self a.file.now (length a.file.now) c.copy_from_slice.ensures.after (omega arith) refl) more

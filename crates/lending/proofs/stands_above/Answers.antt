@@ -1,9 +1,6 @@
-use Prim.Native.Nat.{◌-◌, ◌≤◌}
-use mathlib.Core.Path.{◌≡◌, refl, sym, ◌∙◌}
+use mathlib.Core.Path.{refl, sym, ◌∙◌}
 use native.Mathlib.Omega.{arith}
 use borrow.Author.Rules.{rules}
-use lib.ListN.{length, drop}
-use Rattle.lending.specs.Lending.{above}
 use Rattle.lending.proofs.AboveLaws.{above_short, above_next, above_differs, above_more, above_all}
 use Rattle.lending.proofs.stands_above.Goals as goal
 

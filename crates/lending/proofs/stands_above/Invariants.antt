@@ -1,11 +1,8 @@
 -- `lending::stands_above` meets its contract: what is left of both answers as the whole does.
 use Prim.Native.Nat.{◌-◌, ◌≤◌}
-use mathlib.Core.Path.{◌≡◌, refl, sym, ◌∙◌}
-use native.Mathlib.Omega.{arith}
-use borrow.Author.Rules.{rules}
+use mathlib.Core.Path.{◌≡◌}
 use lib.ListN.{length, drop}
 use Rattle.lending.specs.Lending.{above}
-use Rattle.lending.proofs.AboveLaws.{above_short, above_next, above_differs, above_more, above_all}
 use Rattle.lending.proofs.stands_above.Given as goal
 
 abbrev pub invariant-loop-i : goal.invariant-loop-i

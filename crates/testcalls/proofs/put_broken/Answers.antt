@@ -1,6 +1,5 @@
 -- One store, or none where the list is empty.
 use Rattle.testcalls.proofs.PutLaws.{put_short, put_stores}
-use borrow.Author.Rules.{rules}
 use Rattle.testcalls.proofs.put_broken.Goals as goal
 
 pub returns-then-out-lt1 : goal.returns-then-out-lt1

@@ -2,7 +2,6 @@
 use Rattle.testcalls.proofs.PutLaws.{put_short, put_stores}
 use native.Mathlib.Omega.{arith}
 use lib.ListN.{length-set}
-use borrow.Author.Rules.{rules}
 use Rattle.testcalls.proofs.put_decided.Goals as goal
 
 pub returns-then-out-lt3 : goal.returns-then-out-lt3

@@ -1,7 +1,6 @@
 -- One line for each answer.
 use Rattle.testcalls.proofs.PutLaws.{put_none}
 use Rattle.answers.specs.Complete.{complete_ignore}
-use borrow.Author.Rules.{rules}
 use Rattle.testcalls.proofs.put_ignore.Goals as goal
 
 pub returns-in-Undecided : goal.returns-in-Undecided

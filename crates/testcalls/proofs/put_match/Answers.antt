@@ -1,7 +1,6 @@
 -- One line for each answer.
 use Rattle.testcalls.proofs.PutLaws.{put_none}
 use Rattle.wildmatch.specs.Answers.{values_of}
-use borrow.Author.Rules.{rules}
 use Rattle.testcalls.proofs.put_match.Goals as goal
 
 pub returns-in-Unmatched : goal.returns-in-Unmatched

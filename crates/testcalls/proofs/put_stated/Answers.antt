@@ -1,6 +1,5 @@
 -- One line for each state.
 use Rattle.answers.specs.Complete.{state_values}
-use borrow.Author.Rules.{rules}
 use Rattle.testcalls.proofs.put_stated.Goals as goal
 
 pub returns-in-Set : goal.returns-in-Set

@@ -1,6 +1,5 @@
 -- `testcalls::testcalls_attribute` meets its contract: the number and the values are those of one answer of the question.
 use Rattle.answers.specs.Complete.{complete_attribute}
-use borrow.Author.Rules.{rules}
 use Rattle.testcalls.proofs.testcalls_attribute.Goals as goal
 
 pub returns : goal.returns

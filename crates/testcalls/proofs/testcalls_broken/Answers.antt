@@ -2,7 +2,6 @@
 use mathlib.Core.Path.{◌∙◌, sym}
 use Rattle.brokenplaces.proofs.BrokenLaws.{read_broken, read_unbroken}
 use Rattle.testcalls.proofs.PutLaws.{no_place, one_place}
-use borrow.Author.Rules.{rules}
 use Rattle.testcalls.proofs.testcalls_broken.Goals as goal
 
 pub returns-in-Unbroken : goal.returns-in-Unbroken

@@ -1,6 +1,5 @@
 -- `testcalls::testcalls_ignore` meets its contract: the number and the values are those of one answer of the question.
 use Rattle.answers.specs.Complete.{complete_ignore}
-use borrow.Author.Rules.{rules}
 use Rattle.testcalls.proofs.testcalls_ignore.Goals as goal
 
 pub returns : goal.returns

@@ -1,5 +1,4 @@
 -- `testcalls::testcalls_match` meets its contract: the number and the value are those of one answer of the matcher.
-use borrow.Author.Rules.{rules}
 use Rattle.testcalls.proofs.testcalls_match.Goals as goal
 
 pub returns : goal.returns

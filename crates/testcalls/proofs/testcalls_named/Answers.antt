@@ -2,7 +2,6 @@
 use mathlib.Core.Path.{sym, ap, ◌∙◌}
 use mathlib.Core.Bool.{Bool, cond}
 use Prim.Native.Nat.{ℕ}
-use borrow.Author.Rules.{rules}
 use Rattle.testcalls.specs.Probes.{named_probed}
 use Rattle.testcalls.proofs.testcalls_named.Goals as goal
 

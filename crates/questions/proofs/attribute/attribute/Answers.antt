@@ -1,6 +1,5 @@
 -- `questions::attribute::attribute` meets its contract: a refusal is the lowest; an accepted question has its answer.
 use Rattle.questions.proofs.AnswerLaws.{attribute_refused, attribute_answered}
-use borrow.Author.Rules.{rules}
 use Rattle.questions.proofs.attribute.attribute.Goals as goal
 
 pub returns-then-refusal-ne0 : goal.returns-then-refusal-ne0

@@ -1,6 +1,5 @@
 -- `questions::ignore::ignore` meets its contract: a refusal is the lowest; an accepted question has its answer.
 use Rattle.questions.proofs.AnswerLaws.{ignore_refused, ignore_answered}
-use borrow.Author.Rules.{rules}
 use Rattle.questions.proofs.ignore.ignore.Goals as goal
 
 pub returns-then-refusal-ne0 : goal.returns-then-refusal-ne0

@@ -1,6 +1,5 @@
 -- `verdicts::attribute::attribute_answer` meets its contract: the state is answered.
 use mathlib.Core.Path.{ap, ◌∙◌}
-use borrow.Author.Rules.{rules}
 use Rattle.verdicts.specs.Verdicts.{state_answer}
 use Rattle.verdicts.proofs.attribute.attribute_answer.Goals as goal
 

@@ -1,6 +1,5 @@
 -- `questions::attribute::state_answer` meets its contract: the state is what is answered.
 use Rattle.answers.specs.Complete.{complete_attribute}
-use borrow.Author.Rules.{rules}
 use Rattle.verdicts.proofs.attribute.state_answer.Goals as goal
 
 pub returns-in-Undecided : goal.returns-in-Undecided

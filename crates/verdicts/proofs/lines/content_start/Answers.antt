@@ -3,7 +3,6 @@ use native.Mathlib.Omega.{arith}
 use lib.ListN.{length, take, drop}
 use Prim.Native.Nat.{◌-◌}
 use Rattle.verdicts.proofs.ScanLaws.{bom-small, content_inside, content_past}
-use borrow.Author.Rules.{rules}
 use Rattle.verdicts.proofs.lines.content_start.Goals as goal
 
 pub overflow_add-result : goal.overflow_add-result

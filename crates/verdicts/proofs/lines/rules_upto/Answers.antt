@@ -2,7 +2,6 @@
 use mathlib.Core.Path.{sym}
 use lib.Seq.{length-take-le}
 use Rattle.verdicts.proofs.ScanLaws.{upto_all}
-use borrow.Author.Rules.{rules}
 use Rattle.verdicts.proofs.lines.rules_upto.Goals as goal
 
 pub slice_bounds-result-end : goal.slice_bounds-result-end

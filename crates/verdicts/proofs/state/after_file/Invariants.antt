@@ -1,19 +1,11 @@
 -- `questions::state::after_file` meets its contract: the decision before a line is overridden by that of the lines from there on.
 use Prim.Native.Nat.{◌+◌, ◌-◌, ◌≤◌}
-use native.Mathlib.Omega.{arith}
-use mathlib.Core.Path.{◌≡◌, sym, ap, ◌∙◌}
-use mathlib.Core.Option.{Option}
-use borrow.Author.Rules.{rules}
-use lib.ListN.{length, drop, length-drop}
-use lib.Seq.{length-take-le}
+use mathlib.Core.Path.{◌≡◌}
+use lib.ListN.{length, drop}
 use Rattle.entries.specs.Entries.{against}
 use Rattle.rulefiles.specs.RuleFiles.{split}
 use Rattle.rulefiles.specs.Decisions.{override}
-use Rattle.rulefiles.proofs.LineLaws.{line_fits}
-use Rattle.rulefiles.proofs.PartLaws.{upto_part}
-use Rattle.attributelines.specs.declared.State.{State}
-use Rattle.verdicts.specs.inner.Scan.{state_decision_of, decision_at, attribute_at, last_in, last_in_file}
-use Rattle.verdicts.proofs.ScanLaws.{line_turn, lines_end, file_begin}
+use Rattle.verdicts.specs.inner.Scan.{state_decision_of, attribute_at, last_in, last_in_file}
 use Rattle.verdicts.proofs.state.after_file.Given as goal
 
 abbrev pub invariant-loop-i : goal.invariant-loop-i

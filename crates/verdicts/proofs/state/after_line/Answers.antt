@@ -1,5 +1,4 @@
 -- `verdicts::state::after_line` meets its contract: a line that has an effect overrides what was decided before.
-use borrow.Author.Rules.{rules}
 use Rattle.verdicts.proofs.state.after_line.Goals as goal
 
 pub returns-in-Assigns : goal.returns-in-Assigns

@@ -1,13 +1,12 @@
-use Prim.Native.Nat.{ℕ, ◌-◌, ◌≤◌}
+use Prim.Native.Nat.{ℕ}
 use native.Mathlib.Omega.{arith}
 use mathlib.Core.Path.{◌≡◌, sym, ap, ◌∙◌}
-use mathlib.Core.Logic.{⊎_elim}
 use mathlib.Core.List.{List}
 use borrow.Author.Rules.{rules}
-use lib.ListN.{length, drop, get_or}
+use lib.ListN.{get_or}
 use Rattle.entries.specs.Entries.{against}
 use Rattle.bytestrings.proofs.SliceLaws.{from}
-use Rattle.rulefiles.specs.RuleFiles.{files_from, lines_of, lines_of_all, ordered_lines}
+use Rattle.rulefiles.specs.RuleFiles.{lines_of}
 use Rattle.rulefiles.specs.Decisions.{override, last_decision}
 use Rattle.attributelines.specs.AttributeLines.{attribute_effect}
 use Rattle.verdicts.specs.Verdicts.{attribute_state}

@@ -1,20 +1,13 @@
 -- `verdicts::state::attribute_state` meets its contract: the state before a file is overridden by that of the files from there on.
-use Prim.Native.Nat.{ℕ, ◌-◌, ◌≤◌}
-use native.Mathlib.Omega.{arith}
-use mathlib.Core.Path.{◌≡◌, sym, ap, ◌∙◌}
-use mathlib.Core.Logic.{⊎_elim}
-use mathlib.Core.List.{List}
-use borrow.Author.Rules.{rules}
-use lib.ListN.{length, drop, get_or}
-use Rattle.entries.specs.Entries.{against}
-use Rattle.bytestrings.proofs.SliceLaws.{from}
-use Rattle.rulefiles.specs.RuleFiles.{files_from, lines_of, lines_of_all, ordered_lines}
+use Prim.Native.Nat.{◌-◌, ◌≤◌}
+use mathlib.Core.Path.{◌≡◌}
+use lib.ListN.{length, drop}
+use Rattle.rulefiles.specs.RuleFiles.{files_from, lines_of_all, ordered_lines}
 use Rattle.rulefiles.specs.Decisions.{override, last_decision}
 use Rattle.attributelines.specs.AttributeLines.{attribute_effect}
 use Rattle.verdicts.specs.Verdicts.{attribute_state}
-use Rattle.verdicts.specs.inner.Scan.{state_decision_of, attribute_at, last_in_file}
-use Rattle.verdicts.proofs.FileLaws.{file_at, file_turn, files_end, bases_end}
-use Rattle.verdicts.proofs.VerdictLaws.{start_fits, entry_of, lines_begin, file-applies, file-passed, attribute_reads}
+use Rattle.verdicts.specs.inner.Scan.{state_decision_of}
+use Rattle.verdicts.proofs.VerdictLaws.{entry_of}
 use Rattle.verdicts.proofs.state.attribute_state.Given as goal
 
 abbrev pub invariant-loop-file : goal.invariant-loop-file

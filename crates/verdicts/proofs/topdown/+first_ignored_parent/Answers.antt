@@ -5,7 +5,6 @@ use mathlib.Core.Bool.{true}
 use mathlib.Core.List.{List}
 use lib.ListN.{take, length}
 use lib.Seq.{length-take-le}
-use borrow.Author.Rules.{rules}
 use Rattle.entries.specs.Entries.{component_start}
 use Rattle.rulefiles.specs.RuleFiles.{ordered_lines}
 use Rattle.rulefiles.specs.Decisions.{override}

@@ -1,6 +1,5 @@
 -- `verdicts::topdown::judge` meets its contract: the answer has the verdict, the length and the place.
 use Rattle.answers.specs.Complete.{complete_ignore}
-use borrow.Author.Rules.{rules}
 use Rattle.verdicts.proofs.topdown.judge.Goals as goal
 
 pub returns-in-Undecided : goal.returns-in-Undecided

@@ -10,7 +10,6 @@ use Rattle.answers.specs.declared.DecidedEntry.{DecidedEntry}
 use Rattle.verdicts.specs.declared.topdown.IgnoredParent.{IgnoredParent}
 use Rattle.verdicts.proofs.VerdictLaws.{entry_of}
 use Rattle.verdicts.proofs.ParentLaws.{answer_or, top_down_lem}
-use borrow.Author.Rules.{rules}
 use Rattle.verdicts.proofs.topdown.judge_path.Goals as goal
 
 pub returns-in-First : goal.returns-in-First

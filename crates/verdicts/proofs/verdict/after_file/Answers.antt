@@ -1,12 +1,10 @@
-use Rattle.verdicts.specs.inner.Scan.{ignore_at, verdict_decision_of, decision_at, last_in, last_in_file}
-use Prim.Native.Nat.{◌+◌, ◌-◌, ◌≤◌}
+use Rattle.verdicts.specs.inner.Scan.{ignore_at, verdict_decision_of, decision_at}
+use Prim.Native.Nat.{◌≤◌}
 use native.Mathlib.Omega.{arith}
-use mathlib.Core.Path.{◌≡◌, sym, ap, ◌∙◌}
+use mathlib.Core.Path.{sym, ap, ◌∙◌}
 use mathlib.Core.Option.{Option}
-use borrow.Author.Rules.{rules}
 use lib.ListN.{length, drop, length-drop}
 use Rattle.entries.specs.Entries.{against}
-use Rattle.rulefiles.specs.RuleFiles.{split}
 use Rattle.rulefiles.specs.Decisions.{override}
 use Rattle.rulefiles.proofs.LineLaws.{line_fits}
 use Rattle.ignorelines.specs.IgnoreLines.{Verdict}

@@ -1,17 +1,11 @@
 -- `questions::verdict::after_file` meets its contract: the decision before a line is overridden by that of the lines from there on.
-use Rattle.verdicts.specs.inner.Scan.{ignore_at, verdict_decision_of, decision_at, last_in, last_in_file}
+use Rattle.verdicts.specs.inner.Scan.{ignore_at, verdict_decision_of, last_in, last_in_file}
 use Prim.Native.Nat.{◌+◌, ◌-◌, ◌≤◌}
-use native.Mathlib.Omega.{arith}
-use mathlib.Core.Path.{◌≡◌, sym, ap, ◌∙◌}
-use mathlib.Core.Option.{Option}
-use borrow.Author.Rules.{rules}
-use lib.ListN.{length, drop, length-drop}
+use mathlib.Core.Path.{◌≡◌}
+use lib.ListN.{length, drop}
 use Rattle.entries.specs.Entries.{against}
 use Rattle.rulefiles.specs.RuleFiles.{split}
 use Rattle.rulefiles.specs.Decisions.{override}
-use Rattle.rulefiles.proofs.LineLaws.{line_fits}
-use Rattle.ignorelines.specs.IgnoreLines.{Verdict}
-use Rattle.verdicts.proofs.ScanLaws.{line_turn, lines_end, file_begin}
 use Rattle.verdicts.proofs.verdict.after_file.Given as goal
 
 abbrev pub invariant-loop-i : goal.invariant-loop-i

@@ -1,5 +1,4 @@
 -- `verdicts::verdict::after_line` meets its contract: a line that has an effect overrides what was decided before.
-use borrow.Author.Rules.{rules}
 use Rattle.verdicts.proofs.verdict.after_line.Goals as goal
 
 pub returns-in-Ignores : goal.returns-in-Ignores
