@@ -59,4 +59,5 @@ returns c =
     let up = sym c.stands_above.ensures ∙ c.if-not-stands_above.false in
     let more = lent_more a.path.now a.number a.directory.now a.file.now a.lent a.rules.now a.ends.now a.bases.now a.numbers.now c.requires up
     room (omega (arith, c.if-ends-n.false)) (omega (arith, c.if-bases-n.false)) (omega (arith, c.if-numbers-n.false)) in
-    rw (put_mid-paste a.lent.bytes (a.lent.bytes + length a.file.now - a.lent.bytes) a.rules.now c.copy_from_slice.new.self a.file.now (length a.file.now) c.copy_from_slice.ensures.after (omega arith) refl) more
+    rw (put_mid-paste a.lent.bytes (a.lent.bytes + length a.file.now - a.lent.bytes) a.rules.now c.copy_from_slice.new.self
+    a.file.now (length a.file.now) c.copy_from_slice.ensures.after (omega arith) refl) more

@@ -69,7 +69,8 @@ loop-file-preserved c =
           (ap state_decision_of w.last-is ∙ w.after_file-last.ensures
           ∙ ap (λ (u : List ℕ). override
           (state_decision_of c.loop-file.last)
-          (last_in_file (attribute_at (against (from base entry) (from c.component_start-at.result entry) a.directory a.fold) a.attribute.now) c.loop-file.file u c.loop-file.start)) w.rules_upto.ensures)
+          (last_in_file (attribute_at (against (from base entry) (from c.component_start-at.result entry) a.directory a.fold) a.attribute.now)
+          c.loop-file.file u c.loop-file.start)) w.rules_upto.ensures)
       | else-base-path w ↦
           file-passed (attribute_effect a.fold (entry_of entry a.directory) a.attribute.now) (λ subject. attribute_at subject a.attribute.now) a.directory a.fold
           a.rules.now a.ends.now a.bases.now entry (attribute_reads a.fold a.directory a.attribute.now entry) c.loop-file.file c.loop-file.start

@@ -14,7 +14,8 @@ abbrev pub invariant-loop-file : goal.invariant-loop-file
 invariant-loop-file l =
     (l.file ≤ length l.ends)
     × (attribute_state l.fold l.attribute (ordered_lines l.rules l.ends l.bases) (entry_of l.path l.directory)
-    ≡ override (state_decision_of l.last) (last_decision (attribute_effect l.fold (entry_of l.path l.directory) l.attribute) (lines_of_all (files_from l.file l.start l.rules (drop l.file l.ends) (drop l.file l.bases)))))
+    ≡ override (state_decision_of l.last) (last_decision (attribute_effect l.fold (entry_of l.path l.directory) l.attribute)
+    (lines_of_all (files_from l.file l.start l.rules (drop l.file l.ends) (drop l.file l.bases)))))
 
 abbrev pub decreases-loop-file : goal.decreases-loop-file
 decreases-loop-file l = length l.ends - l.file

@@ -14,7 +14,8 @@ abbrev pub invariant-loop-file : goal.invariant-loop-file
 invariant-loop-file l =
     (l.file ≤ length l.ends)
     × (verdict l.fold (ordered_lines l.rules l.ends l.bases) (entry_of l.entry l.directory)
-    ≡ override (verdict_decision_of l.last) (last_decision (ignore_effect l.fold (entry_of l.entry l.directory)) (lines_of_all (files_from l.file l.start l.rules (drop l.file l.ends) (drop l.file l.bases)))))
+    ≡ override (verdict_decision_of l.last) (last_decision (ignore_effect l.fold (entry_of l.entry l.directory))
+    (lines_of_all (files_from l.file l.start l.rules (drop l.file l.ends) (drop l.file l.bases)))))
 
 abbrev pub decreases-loop-file : goal.decreases-loop-file
 decreases-loop-file l = length l.ends - l.file
