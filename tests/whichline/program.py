@@ -51,6 +51,14 @@ def shorter(text):
     return text if len(text) < 200 else text[:200] + b".. (%d bytes)" % len(text)
 
 
+def is_text(word):
+    """Whether a word of the command line is UTF-8."""
+    with contextlib.suppress(UnicodeDecodeError):
+        as_bytes(word).decode()
+        return True
+    return False
+
+
 class Trial:
     """A temporary folder in which the program is asked, and what was found wrong."""
 
@@ -82,11 +90,15 @@ class Trial:
             with open(place, "wb") as out:
                 out.write(content)
 
+    def command(self, words):
+        """The proved program, or bin/whichline, through which alone a file is opened whose name is not UTF-8."""
+        return str(self.program) if all(is_text(word) for word in words) else self.installed
+
     def run(self, words, listing=b"", installed=False, **more):
         more = {"stdout": subprocess.PIPE, "stderr": subprocess.PIPE, "timeout": 120} | more
         if "stdin" not in more:
             more["input"] = listing
-        return subprocess.run([self.installed if installed else str(self.program), *words], cwd=self.folder, **more)
+        return subprocess.run([self.installed if installed else self.command(words), *words], cwd=self.folder, **more)
 
     def fault(self, title, words):
         self.wrong += 1

@@ -33,6 +33,7 @@ pub fn section_len(row: &[u8]) -> usize
 }
 
 // The value of a hexadecimal digit; 16 for any other byte.
+#[tactic(auto, unfolding(crate::specs::Fields::hex_value))]
 fn hex_value(b: u8) -> u8
     ensures { result ≡ hex_value b }
 {

@@ -2,7 +2,10 @@
 // Writes each answer that differs, what passed of each section, and the totals.
 #![tactic(auto)]
 
-use libc::STDOUT_FILENO;
+ghost use Rattle.std.specs.Prelude.{◌≤◌, length};
+
+use std::fs::File;
+use std::io::Read;
 
 mod fields;
 mod lend;
@@ -14,30 +17,48 @@ mod written;
 
 use crate::tally::{Table, Tally};
 
-// Runs one file of rows. A file that fills the buffer may go on behind it, so it is not run as if it were whole.
-fn run_named(table: Table, name: &[u8], before: Tally) -> Tally {
-    let fd = os::open_read(name);
-    if fd < 0 {
-        os::fail(name);
-        return before;
+// Reads until the buffer is full, the file ends or a read fails, and answers how many bytes came.
+fn read_full(file: &mut File, buf: &mut [u8]) -> usize
+    ensures { result ≤ length buf.new }
+{
+    let mut done = 0;
+    while done < buf.len() {
+        let n = file.read(&mut buf[done..]).unwrap_or(0);
+        if n == 0 {
+            return done;
+        }
+        done += n;
     }
-    let mut buf = io::large_buffer();
-    let n = io::read_full(fd, &mut buf);
-    libc::close(fd);
-    if n == 65536 {
-        io::write_all(STDOUT_FILENO, b"too long: ");
-        io::write_all(STDOUT_FILENO, name);
-        io::write_all(STDOUT_FILENO, b"\n");
-        return before;
-    }
-    tally::run_rows(table, &buf[..n], before)
+    done
 }
 
-fn main() {
+// Runs one file of rows. A file that fills the buffer may go on behind it, so it is not run as if it were whole.
+fn run_file(rt: HostRuntime, table: Table, name: &str, file: &mut File, before: Tally) -> Tally {
+    let mut buf = io::large_buffer();
+    let n = read_full(file, &mut buf);
+    if n == 65536 {
+        report::too_long(rt, name);
+        return before;
+    }
+    tally::run_rows(rt, table, &buf[..n], before)
+}
+
+// Runs the file of a name.
+fn run_named(rt: HostRuntime, table: Table, name: &str, before: Tally) -> Tally {
+    match File::open(&rt, name) {
+        Ok(mut file) => run_file(rt, table, name, &mut file, before),
+        Err(e) => {
+            report::failed(rt, name, e);
+            before
+        }
+    }
+}
+
+fn main(rt: HostRuntime) {
     let none = tally::nothing();
-    let rows = run_named(Table::Matches001, b"document-001.tsv", none);
-    let frames = run_named(Table::Matches, b"document-01.tsv", rows);
-    let ignores = run_named(Table::Questions, b"ignore.tsv", frames);
-    let all = run_named(Table::Questions, b"attributes.tsv", ignores);
-    report::totals(all);
+    let rows = run_named(rt, Table::Matches001, "document-001.tsv", none);
+    let frames = run_named(rt, Table::Matches, "document-01.tsv", rows);
+    let ignores = run_named(rt, Table::Questions, "ignore.tsv", frames);
+    let all = run_named(rt, Table::Questions, "attributes.tsv", ignores);
+    report::totals(rt, all);
 }

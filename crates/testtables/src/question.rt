@@ -49,6 +49,7 @@ fn answer(
 
 // Compares the answer with the expected one; says so where they differ.
 fn compare(
+    rt: HostRuntime,
     label: &[u8],
     path: &[u8],
     rules: &[u8],
@@ -70,7 +71,7 @@ fn compare(
             differ: 0,
         };
     }
-    report::other_answer(label, expected, &out[0..n]);
+    report::other_answer(rt, label, expected, &out[0..n]);
     Outcome::Ran {
         answers: 1,
         differ: 1,
@@ -78,6 +79,7 @@ fn compare(
 }
 
 fn run_fields(
+    rt: HostRuntime,
     sheet: &[u8],
     label: &[u8],
     files: &[u8],
@@ -104,6 +106,7 @@ fn run_fields(
         return Outcome::Malformed;
     }
     compare(
+        rt,
         label,
         &path_bytes[0..p],
         &rules[0..used],
@@ -115,7 +118,7 @@ fn run_fields(
 }
 
 // Takes what follows a row's files apart at its first two tabs and runs the row.
-fn run_asked(sheet: &[u8], label: &[u8], files: &[u8], rest: &[u8]) -> Outcome
+fn run_asked(rt: HostRuntime, sheet: &[u8], label: &[u8], files: &[u8], rest: &[u8]) -> Outcome
     ensures { Answers 1 result }
 {
     let a = fields::find(rest, 0, b'\t');
@@ -127,6 +130,7 @@ fn run_asked(sheet: &[u8], label: &[u8], files: &[u8], rest: &[u8]) -> Outcome
         return Outcome::Malformed;
     }
     run_fields(
+        rt,
         sheet,
         label,
         files,
@@ -137,7 +141,7 @@ fn run_asked(sheet: &[u8], label: &[u8], files: &[u8], rest: &[u8]) -> Outcome
 }
 
 // Runs a row of five fields: its label, its files, the path, what is asked, and the answer expected.
-pub fn run_row(sheet: &[u8], row: &[u8]) -> Outcome
+pub fn run_row(rt: HostRuntime, sheet: &[u8], row: &[u8]) -> Outcome
     ensures { Answers 1 result }
 {
     let a = fields::find(row, 0, b'\t');
@@ -148,5 +152,5 @@ pub fn run_row(sheet: &[u8], row: &[u8]) -> Outcome
     if b == row.len() {
         return Outcome::Malformed;
     }
-    run_asked(sheet, &row[0..a], &row[a + 1..b], &row[b + 1..])
+    run_asked(rt, sheet, &row[0..a], &row[a + 1..b], &row[b + 1..])
 }

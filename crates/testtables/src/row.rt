@@ -67,6 +67,7 @@ fn is_expected(expected: &[u8], i: usize, got: &[u8]) -> bool {
 
 // Whether the matcher, asked with these flags, answers other than expected in the i-th mode; says so if it does.
 fn differs(
+    rt: HostRuntime,
     label: &[u8],
     pattern: &[u8],
     text: &[u8],
@@ -78,24 +79,37 @@ fn differs(
     let mut out = io::buffer();
     let n = written::matched(answer(pattern, text, flags, lenient), &mut out);
     if n > 4096 {
-        report::difference(label, flags, expected, b"an answer too long to be written");
+        report::difference(
+            rt,
+            label,
+            flags,
+            expected,
+            b"an answer too long to be written",
+        );
         return true;
     }
     if is_expected(expected, i, &out[0..n]) {
         return false;
     }
-    report::difference(label, flags, expected, &out[0..n]);
+    report::difference(rt, label, flags, expected, &out[0..n]);
     true
 }
 
 // How many of the four answers differ.
-fn count_differing(label: &[u8], pattern: &[u8], text: &[u8], expected: &[u8], lenient: bool) -> u64
+fn count_differing(
+    rt: HostRuntime,
+    label: &[u8],
+    pattern: &[u8],
+    text: &[u8],
+    expected: &[u8],
+    lenient: bool,
+) -> u64
     ensures { result ≤ 4 }
 {
     let mut n: u64 = 0;
     let mut i = 0;
     while i < 4 {
-        if differs(label, pattern, text, FLAGS[i], i, expected, lenient) {
+        if differs(rt, label, pattern, text, FLAGS[i], i, expected, lenient) {
             n += 1;
         }
         i += 1;
@@ -105,6 +119,7 @@ fn count_differing(label: &[u8], pattern: &[u8], text: &[u8], expected: &[u8], l
 
 // Runs a row on the first `p` and `t` bytes of the two buffers, which its pattern and its text wrote.
 fn run_decoded(
+    rt: HostRuntime,
     label: &[u8],
     pattern: &[u8],
     p: usize,
@@ -121,14 +136,21 @@ fn run_decoded(
     if t > text.len() {
         return Outcome::Malformed;
     }
-    let differ = count_differing(label, &pattern[0..p], &text[0..t], expected, lenient);
+    let differ = count_differing(rt, label, &pattern[0..p], &text[0..t], expected, lenient);
     Outcome::Ran {
         answers: 4,
         differ: differ,
     }
 }
 
-fn run_fields(label: &[u8], pattern: &[u8], text: &[u8], expected: &[u8], lenient: bool) -> Outcome
+fn run_fields(
+    rt: HostRuntime,
+    label: &[u8],
+    pattern: &[u8],
+    text: &[u8],
+    expected: &[u8],
+    lenient: bool,
+) -> Outcome
     ensures { Answers 4 result }
 {
     if !is_expectation(expected) {
@@ -138,11 +160,20 @@ fn run_fields(label: &[u8], pattern: &[u8], text: &[u8], expected: &[u8], lenien
     let mut text_bytes = io::buffer();
     let p = fields::decode(pattern, &mut pattern_bytes);
     let t = fields::decode(text, &mut text_bytes);
-    run_decoded(label, &pattern_bytes, p, &text_bytes, t, expected, lenient)
+    run_decoded(
+        rt,
+        label,
+        &pattern_bytes,
+        p,
+        &text_bytes,
+        t,
+        expected,
+        lenient,
+    )
 }
 
 // Takes a row apart at its first three tabs and runs it. Where `lenient`, it reads broken as no match.
-pub fn run_row(row: &[u8], lenient: bool) -> Outcome
+pub fn run_row(rt: HostRuntime, row: &[u8], lenient: bool) -> Outcome
     ensures { Answers 4 result }
 {
     let a = fields::find(row, 0, b'\t');
@@ -158,6 +189,7 @@ pub fn run_row(row: &[u8], lenient: bool) -> Outcome
         return Outcome::Malformed;
     }
     run_fields(
+        rt,
         &row[0..a],
         &row[a + 1..b],
         &row[b + 1..c],

@@ -7,7 +7,7 @@ use crate::{fields, question, report, row};
 
 // What the rows of a file are: pairs for the matcher, or questions. Document 001's tables have no third answer: broken is 0 there (02,
 // R-14).
-#[derive(Drop)]
+#[derive(Clone, Copy)]
 pub enum Table {
     Matches001,
     Matches,
@@ -77,14 +77,14 @@ fn with_answers(t: Tally, answers: u64, differ: u64) -> Tally
 }
 
 // Writes the line of the section that `row` belongs to, if any row was counted, and starts another.
-fn end_section(row: &[u8], t: Tally) -> Tally
+fn end_section(rt: HostRuntime, row: &[u8], t: Tally) -> Tally
     ensures { Grown t result }
 {
     if t.section_rows == 0 {
         return t;
     }
     let n = fields::section_len(row);
-    report::section(&row[0..n], t.section_passed, t.section_rows);
+    report::section(rt, &row[0..n], t.section_passed, t.section_rows);
     Tally {
         rows: t.rows,
         answers: t.answers,
@@ -102,22 +102,22 @@ fn same_section(a: &[u8], b: &[u8]) -> bool {
 }
 
 // Runs a row of a table.
-fn run_row(table: Table, sheet: &[u8], row: &[u8]) -> Outcome {
+fn run_row(rt: HostRuntime, table: Table, sheet: &[u8], row: &[u8]) -> Outcome {
     match table {
-        Table::Matches001 => row::run_row(row, true),
-        Table::Matches => row::run_row(row, false),
-        Table::Questions => question::run_row(sheet, row),
+        Table::Matches001 => row::run_row(rt, row, true),
+        Table::Matches => row::run_row(rt, row, false),
+        Table::Questions => question::run_row(rt, sheet, row),
     }
 }
 
 // Runs a row and counts it.
-fn count_row(table: Table, sheet: &[u8], row: &[u8], t: Tally) -> Tally
+fn count_row(rt: HostRuntime, table: Table, sheet: &[u8], row: &[u8], t: Tally) -> Tally
     ensures { Grown t result }
 {
-    let outcome = run_row(table, sheet, row);
+    let outcome = run_row(rt, table, sheet, row);
     match outcome {
         Outcome::Malformed => {
-            report::malformed(row);
+            report::malformed(rt, row);
             with_malformed(t)
         }
         Outcome::Ran { answers, differ } => with_answers(t, answers, differ),
@@ -125,13 +125,13 @@ fn count_row(table: Table, sheet: &[u8], row: &[u8], t: Tally) -> Tally
 }
 
 // Counts a row; `last` begins with the row before it, whose section ends where this one's is another.
-fn next_row(table: Table, sheet: &[u8], last: &[u8], row: &[u8], t: Tally) -> Tally
+fn next_row(rt: HostRuntime, table: Table, sheet: &[u8], last: &[u8], row: &[u8], t: Tally) -> Tally
     ensures { Grown t result }
 {
     if same_section(last, row) {
-        return count_row(table, sheet, row, t);
+        return count_row(rt, table, sheet, row, t);
     }
-    count_row(table, sheet, row, end_section(last, t))
+    count_row(rt, table, sheet, row, end_section(rt, last, t))
 }
 
 // Whether a line is a row: neither empty nor a comment, and no file that rows lend.
@@ -143,7 +143,7 @@ fn is_row(line: &[u8]) -> bool {
 }
 
 // Runs the rows of a file, one a line.
-pub fn run_rows(table: Table, s: &[u8], before: Tally) -> Tally
+pub fn run_rows(rt: HostRuntime, table: Table, s: &[u8], before: Tally) -> Tally
     ensures { Grown before result }
 {
     let mut t = before;
@@ -152,10 +152,10 @@ pub fn run_rows(table: Table, s: &[u8], before: Tally) -> Tally
     while i < s.len() {
         let end = fields::find(s, i, b'\n');
         if is_row(&s[i..end]) {
-            t = next_row(table, s, &s[last..i], &s[i..end], t);
+            t = next_row(rt, table, s, &s[last..i], &s[i..end], t);
             last = i;
         }
         i = end + 1;
     }
-    end_section(&s[last..], t)
+    end_section(rt, &s[last..], t)
 }

@@ -36,8 +36,8 @@ unfolding after_quoted
 quoted_digits room place b l r e h f g = rw (← e, h, f) g
 
 -- the bytes of a field, one after the other
-pub bytes_turn : (room more first place r : ℕ) (s : List ℕ) (i : ℕ) → i < length s → r ≡ after_quoted more place (get_or s i 0) →
-    after_bytes room first s ≡ after_bytes room place (drop i s) → more ≡ room
+pub bytes_turn : (room more first place r : ℕ) (s : List ℕ) (i : ℕ) → i < length s
+    → r ≡ after_quoted more place (get_or s i 0) → after_bytes room first s ≡ after_bytes room place (drop i s) → more ≡ room
     → after_bytes room first s ≡ after_bytes room r (drop (i + 1) s)
 bytes_turn room more first place r s i h e f m = f ∙ rw (drop-cons s i 0 h, add-one i, e, m)
 
@@ -83,8 +83,8 @@ unfolding after_field
 field_quoted room inner more place first last r s e f g h m k = rw (e, ← f, ← k, g, k, ← m) h
 
 -- the parts of a refusal, put one after the other into a buffer that keeps its length
-pub refusal-put : (out : List ℕ) (second third fourth place word n number colon r : ℕ) → word ≡ after (length out) place 8 →
-    (digits : ℕ) × IsDigitCount 10 1 n digits × (number ≡ after second word digits)
+pub refusal-put : (out : List ℕ) (second third fourth place word n number colon r : ℕ) → word ≡ after (length out) place 8
+    → (digits : ℕ) × IsDigitCount 10 1 n digits × (number ≡ after second word digits)
     → colon ≡ after third number 2 → r ≡ after fourth colon (reason_length n) → second ≡ length out → third ≡ length out → fourth ≡ length out → AfterRefusal out place n r
 refusal-put out second third fourth place word n number colon r e f g h s t u =
     (number, (f.0, f.1, rw (← e, ← s) f.2), (rw u at h) ∙ ap (λ (x : ℕ). after (length out) x (reason_length n)) (rw t at g))

@@ -1,7 +1,7 @@
 -- A listing that is read piece by piece: what the bytes that are read and not yet answered come to.
-use Rattle.std.specs.Prelude.{ℕ, ◌+◌, ◌-◌, true, false, cond, ◌&&◌, ◌||◌, List, ltb, leb, length}
+use Rattle.std.specs.Prelude.{ℕ, ◌+◌, ◌-◌, true, false, cond, ◌&&◌, ◌||◌, List, eqb, ltb, leb, length, take, drop}
 use Rattle.bytestrings.specs.Text.{newline}
-use Rattle.bytes.specs.Bytes.{index_of, slice}
+use Rattle.bytestrings.specs.Bytes.{length_until}
 use Rattle.whichline.specs.declared.listing.Unread.{Unread}
 use Rattle.whichline.specs.declared.listing.Found.{Found}
 use Rattle.whichline.specs.declared.listing.Found.TheVariants.{Next, Over, More, Again}
@@ -9,6 +9,14 @@ use Rattle.whichline.specs.declared.listing.Found.TheVariants.{Next, Over, More,
 -- nothing is read yet
 abbrev pub nothing_read : Unread
 nothing_read = record { start = 0; have = 0; passing = false; over = false }
+
+-- the bytes from one place up to another
+abbrev pub slice : ℕ → ℕ → List ℕ → List ℕ
+slice from to bytes = drop from (take to bytes)
+
+-- where a byte stands first, or how many bytes there are
+abbrev pub index_of : ℕ → List ℕ → ℕ
+index_of b bytes = length_until (λ x. eqb x b) bytes
 
 -- where the first unread line ends: at its newline, or where what is read ends
 unfoldable pub line_end : List ℕ → ℕ → ℕ → ℕ

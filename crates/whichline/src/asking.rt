@@ -6,13 +6,12 @@ use crate::listing::{Found, Line};
 use crate::written::{append_attribute, append_ignore};
 use crate::{buffers, given, listing, messages};
 use lending::{Lending, Lent};
-use libc::STDOUT_FILENO;
 
 // Answers are written out when so many bytes of them wait; an answer has fewer than the buffer has left then.
 const WAITING: usize = 131072;
 
 // What is asked of each path: the ignore question, or the attribute question for a name.
-#[derive(Drop)]
+#[derive(Clone, Copy)]
 pub struct Question {
     pub attribute: bool,
     pub fold: bool,
@@ -28,6 +27,7 @@ fn flags(directory: bool, fold: bool) -> u64 {
 
 // Asks over the lent files, and puts the answer.
 fn append_answer(
+    rt: HostRuntime,
     out: &mut [u8],
     at: usize,
     q: Question,
@@ -43,10 +43,10 @@ fn append_answer(
     let f = flags(path.len() < line.len(), q.fold);
     if q.attribute {
         let answer = questions::attribute::attribute(path, rules, ends, bases, name, f);
-        return append_attribute(out, at, answer, line, rules, numbers, names);
+        return append_attribute(rt, out, at, answer, line, rules, numbers, names);
     }
     let answer = questions::ignore::ignore(path, rules, ends, bases, f);
-    append_ignore(out, at, answer, line, numbers, names)
+    append_ignore(rt, out, at, answer, line, numbers, names)
 }
 
 // The path of a line: without its last slash, if the line is whole.
@@ -68,6 +68,7 @@ fn append_path(out: &mut [u8], at: usize, line: &[u8], cut: bool) -> usize {
 
 // Asks over the lent files, at the front of their buffers, and puts the answer.
 fn append_lent(
+    rt: HostRuntime,
     out: &mut [u8],
     at: usize,
     q: Question,
@@ -86,6 +87,7 @@ fn append_lent(
     let n = lent.files;
     let m = lent.bytes;
     append_answer(
+        rt,
         out,
         at,
         q,
@@ -102,6 +104,7 @@ fn append_lent(
 
 // Answers one line of the listing. The rules have room for all given files, so none is left out.
 fn answer_line(
+    rt: HostRuntime,
     out: &mut [u8],
     at: usize,
     q: Question,
@@ -137,22 +140,22 @@ fn answer_line(
         return at;
     };
     let c = append_lent(
-        out, b, q, name, line, path, lent, rules, &ends, &bases, &numbers, names,
+        rt, out, b, q, name, line, path, lent, rules, &ends, &bases, &numbers, names,
     );
     append(out, c, b"\n")
 }
 
 // Writes out the first `n` bytes if they are many or the last; answers how many still wait. The largest number stands for a
 // failure, which is said.
-fn write_out(out: &[u8], n: usize, last: bool) -> usize {
+fn write_out(rt: HostRuntime, out: &[u8], n: usize, last: bool) -> usize {
     if n > out.len() {
         return usize::MAX;
     }
     if n <= WAITING && !last {
         return n;
     }
-    if !io::write_all(STDOUT_FILENO, &out[..n]) {
-        messages::failed(b"standard output");
+    if let Err(e) = rt.write_all(&out[..n]) {
+        messages::failed(rt, b"standard output", e);
         return usize::MAX;
     }
     0
@@ -160,6 +163,7 @@ fn write_out(out: &[u8], n: usize, last: bool) -> usize {
 
 // Answers a line that was found in the input; the result is `write_out`'s.
 fn answer_found(
+    rt: HostRuntime,
     out: &mut [u8],
     at: usize,
     q: Question,
@@ -183,6 +187,7 @@ fn answer_found(
         return at;
     }
     let end = answer_line(
+        rt,
         out,
         at,
         q,
@@ -196,12 +201,13 @@ fn answer_found(
         names,
         rules,
     );
-    write_out(out, end, false)
+    write_out(rt, out, end, false)
 }
 
 // Answers all lines of the listing, one after the other. What is answered is written out before more is read, so that nobody waits for it. A
 // proved loop has to end and nothing says that a listing does, so the turns are counted down from a number that no listing uses up.
 fn answer_all(
+    rt: HostRuntime,
     out: &mut [u8],
     q: Question,
     name: &[u8],
@@ -221,19 +227,20 @@ fn answer_all(
         let found = listing::look(input, u);
         match found {
             Found::Over => {
-                write_out(out, at, true);
+                write_out(rt, out, at, true);
                 return;
             }
             Found::Again(rest) => {
                 u = rest;
             }
             Found::More(rest) => {
-                at = write_out(out, at, true);
-                u = listing::read_more(input, rest);
+                at = write_out(rt, out, at, true);
+                u = listing::read_more(rt, input, rest);
             }
             Found::Next(line) => {
                 u = line.after;
                 at = answer_found(
+                    rt,
                     out,
                     at,
                     q,
@@ -254,6 +261,7 @@ fn answer_all(
 
 // Answers the listing over the first `n` given files.
 fn answer_given(
+    rt: HostRuntime,
     q: Question,
     name: &[u8],
     n: usize,
@@ -273,6 +281,7 @@ fn answer_given(
     let mut input = io::large_buffer();
     let mut out = buffers::out();
     answer_all(
+        rt,
         &mut out,
         q,
         name,
@@ -287,13 +296,14 @@ fn answer_given(
 }
 
 // Reads the rule files that the arguments from `first` on give, then answers the listing.
-pub fn run(attribute: bool, name: &[u8], first: usize) {
+pub fn run(rt: HostRuntime, attribute: bool, name: &[u8], first: usize) {
     let mut files = buffers::rules();
     let mut file_ends = buffers::numbers();
     let mut directories = io::large_buffer();
     let mut directory_ends = buffers::numbers();
     let mut names = buffers::numbers();
     let g = given::take_all(
+        rt,
         first,
         &mut files,
         &mut file_ends,
@@ -310,6 +320,7 @@ pub fn run(attribute: bool, name: &[u8], first: usize) {
         fold: g.fold,
     };
     answer_given(
+        rt,
         q,
         name,
         g.files,

@@ -19,7 +19,7 @@ pub fn append(out: &mut [u8], at: usize, s: &[u8]) -> usize
     if s.len() > out.len() - at {
         return at;
     }
-    bytes::copy(s, &mut out[at..]);
+    out[at..at + s.len()].copy_from_slice(s);
     at + s.len()
 }
 
@@ -70,6 +70,7 @@ fn is_plain(s: &[u8]) -> bool
 }
 
 // The letter that stands for a byte after a `\`; 0 where there is none.
+#[tactic(auto, unfolding(crate::specs::Places::letter_of))]
 fn letter(b: u8) -> u8
     ensures { result ≡ letter_of b }
 {

@@ -4,14 +4,14 @@ ghost use Rattle.whichline.specs.Listing.{nothing_read, line_end, found_line, en
 ghost use Rattle.whichline.specs.Bounds.{AtFront};
 
 use crate::{messages, reading};
-use libc::STDIN_FILENO;
+use bytestrings::find_byte;
 
 // How much of a line is kept: more than any path that is taken has. What a longer line has behind it is passed over.
 const KEPT: usize = 8192;
 
 // What is read and not yet answered: from `start` up to `have`. Whether the rest of a line that was too long is being passed
 // over, and whether the input is at its end.
-#[derive(Drop)]
+#[derive(Clone, Copy)]
 pub struct Unread {
     pub start: usize,
     pub have: usize,
@@ -20,7 +20,7 @@ pub struct Unread {
 }
 
 // A line of the listing: from `start` up to `end`, whether that is only its front, and what is unread after it.
-#[derive(Drop)]
+#[derive(Clone, Copy)]
 pub struct Line {
     pub start: usize,
     pub end: usize,
@@ -59,7 +59,7 @@ fn line_end(buf: &[u8], start: usize, have: usize) -> usize
     if start > have {
         return have;
     }
-    bytes::scan::find(buf, start, have, b'\n')
+    find_byte(&buf[..have], start, b'\n')
 }
 
 // A line, or its front if it is too long.
@@ -150,11 +150,10 @@ fn move_front(buf: &mut [u8], start: usize, have: usize) -> usize
     n
 }
 
-// Nothing more is answered, not even an unfinished line: the input could not be read to its end.
+// Nothing more is answered, not even an unfinished line: the input could not be read to its end, which was said.
 fn unreadable() -> Unread
     ensures { (result.start ≡ 0) × (result.have ≡ 0) }
 {
-    messages::failed(b"standard input");
     Unread {
         start: 0,
         have: 0,
@@ -164,14 +163,15 @@ fn unreadable() -> Unread
 }
 
 // Reads more behind the unread bytes. There is room: no more than a line's front is kept.
-pub fn read_more(buf: &mut [u8], u: Unread) -> Unread
+pub fn read_more(rt: HostRuntime, buf: &mut [u8], u: Unread) -> Unread
     ensures { AtFront result buf.new }
 {
     let have = move_front(buf, u.start, u.have);
     if have >= buf.len() {
+        messages::about(rt, b"standard input", b"no room to read more");
         return unreadable();
     }
-    let n = reading::read_some(STDIN_FILENO, &mut buf[have..]);
+    let n = reading::read_some(rt, &mut rt.stdin(), b"standard input", &mut buf[have..]);
     if n > buf.len() - have {
         return unreadable();
     }

@@ -15,11 +15,11 @@ mod written;
 use crate::arguments::Asked;
 
 // Whether any argument asks for help.
-fn wants_help() -> bool {
-    let n = os::arg_count();
+fn wants_help(rt: HostRuntime) -> bool {
+    let n = arguments::count(rt);
     let mut i = 1;
     while i < n {
-        if arguments::is(i, b"--help") {
+        if arguments::is(rt, i, b"--help") {
             return true;
         }
         i += 1;
@@ -27,25 +27,26 @@ fn wants_help() -> bool {
     false
 }
 
-fn main() {
-    if wants_help() {
-        messages::help();
+fn main(rt: HostRuntime) {
+    if wants_help(rt) {
+        messages::help(rt);
         return;
     }
     let mut name = io::buffer();
-    let asked = arguments::what_is_asked(&mut name);
+    let asked = arguments::what_is_asked(rt, &mut name);
     match asked {
-        Asked::Ignore => asking::run(false, &name, 2),
-        Asked::Attribute(n) => run_attribute(&name, n),
+        Asked::Ignore => asking::run(rt, false, &name, 2),
+        Asked::Attribute(n) => run_attribute(rt, &name, n),
         Asked::Wrong => messages::wrong(
+            rt,
             b"say `ignore`, or `attribute` and its name, and then the rule files",
         ),
     }
 }
 
 // Asks for the attribute whose name is the first `n` bytes.
-fn run_attribute(name: &[u8], n: usize) {
+fn run_attribute(rt: HostRuntime, name: &[u8], n: usize) {
     if n <= name.len() {
-        asking::run(true, &name[..n], 3);
+        asking::run(rt, true, &name[..n], 3);
     }
 }

@@ -3,8 +3,9 @@ ghost use Rattle.std.specs.Prelude.{◌≡◌, length};
 ghost use Rattle.whichline.specs.Places.{after, Onward, reason_length};
 
 use crate::fields::{append, append_field};
-use libc::{STDERR_FILENO, STDOUT_FILENO};
 use rulefiles::file_part;
+use std::io::{Error, Write};
+use std::str;
 
 // How the program is asked.
 fn append_usage(out: &mut [u8]) -> usize {
@@ -49,24 +50,25 @@ fn append_answers(out: &mut [u8], at: usize) -> usize {
     )
 }
 
-pub fn help() {
+pub fn help(rt: HostRuntime) {
     let mut out = io::buffer();
     let a = append_usage(&mut out);
     let n = append_answers(&mut out, a);
-    if !io::write_all(STDOUT_FILENO, file_part(&out, 0, n)) {
-        failed(b"standard output");
+    if let Err(e) = rt.write_all(file_part(&out, 0, n)) {
+        failed(rt, b"standard output", e);
     }
 }
 
-fn complain(s: &[u8]) {
-    io::write_all(STDERR_FILENO, s);
+// Standard error is the last place to say anything: where that fails too, there is nobody to tell.
+fn complain(rt: HostRuntime, s: &[u8]) {
+    let _ = rt.stderr().write_all(s);
 }
 
 // One line on standard error: what is wrong with the arguments.
-pub fn wrong(what: &[u8]) {
-    complain(b"whichline: ");
-    complain(what);
-    complain(b" (whichline --help)\n");
+pub fn wrong(rt: HostRuntime, what: &[u8]) {
+    complain(rt, b"whichline: ");
+    complain(rt, what);
+    complain(rt, b" (whichline --help)\n");
 }
 
 // The program's name and another, quoted where it is empty or no plain field, so that a message stays one line.
@@ -79,23 +81,43 @@ fn append_name(out: &mut [u8], name: &[u8]) -> usize {
 }
 
 // One line on standard error: what is wrong with a file or a directory.
-pub fn about(name: &[u8], what: &[u8]) {
+pub fn about(rt: HostRuntime, name: &[u8], what: &[u8]) {
     let mut out = io::large_buffer();
     let n = append_name(&mut out, name);
-    complain(file_part(&out, 0, n));
-    complain(b": ");
-    complain(what);
-    complain(b"\n");
+    complain(rt, file_part(&out, 0, n));
+    complain(rt, b": ");
+    complain(rt, what);
+    complain(rt, b"\n");
+}
+
+// The words of an error without its number, which std puts behind them.
+fn words(said: &str) -> &str {
+    match said.split_once(" (os error ") {
+        Some((front, _)) => front,
+        None => said,
+    }
+}
+
+// Writes the words of an error to the front of `out`, and answers how many bytes they have.
+fn put_error(out: &mut [u8], e: Error) -> usize {
+    let room = out.len();
+    let mut rest = &mut *out;
+    let _ = write!(rest, "{e}");
+    room.saturating_sub(rest.len())
 }
 
 // One line on standard error: what a call of the system failed at, and why.
-pub fn failed(what: &[u8]) {
-    let mut out = io::large_buffer();
-    let n = append_name(&mut out, what);
-    os::fail(file_part(&out, 0, n));
+pub fn failed(rt: HostRuntime, what: &[u8], e: Error) {
+    let mut said = [0u8; 256];
+    let n = put_error(&mut said, e);
+    match str::from_utf8(file_part(&said, 0, n)) {
+        Ok(text) => about(rt, what, words(text).as_bytes()),
+        Err(_) => about(rt, what, b"failed"),
+    }
 }
 
 // A refusal in words, as far as this program can get it: every file that is lent stands above the path.
+#[tactic(auto, unfolding(crate::specs::Places::reason_length))]
 pub fn reason(number: u8, out: &mut [u8], at: usize) -> usize
     ensures value { result ≡ after (length out.old) at (reason_length number) }
     ensures onward { Onward out.old at result }

@@ -2,22 +2,23 @@
 ghost use Rattle.whichline.specs.Places.{Onward, AfterRefusal, AfterIgnore, AfterAttribute};
 
 use crate::fields::{append, append_field, append_number};
-use crate::messages;
+use crate::{arguments, messages};
 use answers::{AttributeAnswer, DecidedEntry, DecidedState, IgnoreAnswer};
 use attributelines::State;
 use rulefiles::Place;
 
 // Puts the name of the rule file that argument `i` names.
-fn append_name(out: &mut [u8], at: usize, i: usize) -> usize
+fn append_name(rt: HostRuntime, out: &mut [u8], at: usize, i: usize) -> usize
     ensures { Onward out.old at result }
 {
     let mut name = io::buffer();
-    let n = os::arg(i, &mut name);
+    let n = arguments::get(rt, i, &mut name);
     append_field(out, at, &name[..n])
 }
 
 // Puts the rule file and the line, each after a tab. `numbers` says which of the given files was lent, `names` which argument names it.
 fn append_place(
+    rt: HostRuntime,
     out: &mut [u8],
     at: usize,
     place: Place,
@@ -35,7 +36,7 @@ fn append_place(
         return at;
     }
     let a = append(out, at, b"\t");
-    let b = append_name(out, a, names[number]);
+    let b = append_name(rt, out, a, names[number]);
     let c = append(out, b, b"\t");
     append_number(out, c, place.line as u64)
 }
@@ -52,6 +53,7 @@ fn append_refusal(out: &mut [u8], at: usize, number: u8) -> usize
 
 // Puts the verdict and the entry that it is about. An entry above the path is a directory; the path is as the listing has it.
 fn append_decided(
+    rt: HostRuntime,
     out: &mut [u8],
     at: usize,
     verdict: &[u8],
@@ -68,14 +70,15 @@ fn append_decided(
     let b = append(out, a, b"\t");
     if n < line.len() {
         let c = append_field(out, b, &line[..n + 1]);
-        return append_place(out, c, place, numbers, names);
+        return append_place(rt, out, c, place, numbers, names);
     }
     let c = append_field(out, b, line);
-    append_place(out, c, place, numbers, names)
+    append_place(rt, out, c, place, numbers, names)
 }
 
 // Puts an answer of the ignore question. `line` is the path as the listing has it.
 pub fn append_ignore(
+    rt: HostRuntime,
     out: &mut [u8],
     at: usize,
     answer: IgnoreAnswer,
@@ -87,8 +90,11 @@ pub fn append_ignore(
 {
     match answer {
         IgnoreAnswer::Undecided => append(out, at, b"nothing"),
-        IgnoreAnswer::Ignored(d) => append_decided(out, at, b"ignored", d, line, numbers, names),
+        IgnoreAnswer::Ignored(d) => append_decided(
+            rt, out, at, b"ignored", d, line, numbers, names,
+        ),
         IgnoreAnswer::Reincluded(d) => append_decided(
+            rt,
             out,
             at,
             b"re-included",
@@ -129,6 +135,7 @@ fn append_state(out: &mut [u8], at: usize, state: State, rules: &[u8]) -> usize
 
 // Puts the state; the entry is the path itself.
 fn append_decided_state(
+    rt: HostRuntime,
     out: &mut [u8],
     at: usize,
     s: DecidedState,
@@ -144,11 +151,12 @@ fn append_decided_state(
     let a = append_state(out, at, state, rules);
     let b = append(out, a, b"\t");
     let c = append_field(out, b, line);
-    append_place(out, c, place, numbers, names)
+    append_place(rt, out, c, place, numbers, names)
 }
 
 // Puts an answer of the attribute question.
 pub fn append_attribute(
+    rt: HostRuntime,
     out: &mut [u8],
     at: usize,
     answer: AttributeAnswer,
@@ -162,7 +170,7 @@ pub fn append_attribute(
     match answer {
         AttributeAnswer::Undecided => append(out, at, b"nothing"),
         AttributeAnswer::Decided(s) => append_decided_state(
-            out, at, s, line, rules, numbers, names,
+            rt, out, at, s, line, rules, numbers, names,
         ),
         AttributeAnswer::Refused(n) => append_refusal(out, at, n),
     }
