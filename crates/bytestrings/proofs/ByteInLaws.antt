@@ -40,6 +40,15 @@ scanned_other P s before found i j p h e =
       λ t. subst (λ (n : ℕ). (k : ℕ) → k < n → i ≤ k → P (get_or s k 0) → ⊥) q (below_more _ (i + j) (h.1 (sym e ∙ t)) (λ l. p)),
     )
 
+-- one place on, by what is known of `found` after the test there
+pub scanned_step : (P : ℕ → Type 0) (s : List ℕ) (before found : Bool) (i j : ℕ)
+    → (found ≡ true → P (get_or s (i + j) 0) ⊎ ((P (get_or s (i + j) 0) → ⊥) × (before ≡ true)))
+    → (found ≡ false → (P (get_or s (i + j) 0) → ⊥) × (before ≡ false))
+    → Scanned P s before i (i + j) → Scanned P s found i (i + (j + 1))
+scanned_step P s before true i j y n h =
+    ⊎_elim (λ p. scanned_here P s true i j p refl) (λ w. scanned_other P s before true i j w.0 h (sym w.1)) (y refl)
+scanned_step P s before false i j y n h = let w = n refl in scanned_other P s before false i j w.0 h (sym w.1)
+
 pub scanned_end : (P : ℕ → Type 0) (s : List ℕ) (found : Bool) (i j n : ℕ) → Scanned P s found i (i + j) → j ≤ n → n ≤ j → (found ≡ true) ↔ ByteIn P s i (i + n)
 unfolding ByteIn
 scanned_end P s found i j n h a b = let e : j ≡ n = omega arith in subst (λ (m : ℕ). (found ≡ true) ↔ ByteIn P s i (i + m)) e (go found h)

@@ -9,6 +9,7 @@ ghost use Rattle.bytestrings.specs.Bytes.{same_bytes, length_until};
 pub mod letters;
 
 // Whether the two are the same bytes.
+#[tactic(auto, using(crate::proofs::SameLaws::same_length))]
 pub fn same_bytes(a: &[u8], b: &[u8]) -> bool
     ensures { result ≡ same_bytes a.now b.now }
 {

@@ -17,7 +17,7 @@ use Rattle.bytestrings.proofs.BoolLaws.{or_cases, and_split}
 use Rattle.paths.proofs.ScanLaws.{dots_end}
 
 -- byte 0 is one of the control bytes
-zero_control : (s : List ℕ) → HoldsZero s → HoldsControl s
+pub zero_control : (s : List ℕ) → HoldsZero s → HoldsControl s
 zero_control s z = (0, z, inl (omega arith))
 
 -- From the scan to the components.

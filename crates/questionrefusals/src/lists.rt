@@ -49,6 +49,7 @@ fn bases_bad(path: &[u8], bases: &[usize]) -> bool
 }
 
 // Whether the two lists are refused.
+#[tactic(auto, unfolding(crate::specs::Conditions::BadLists))]
 pub fn lists_bad(path: &[u8], rules: &[u8], ends: &[usize], bases: &[usize]) -> bool
     ensures { (result ≡ true) ↔ BadLists path.now rules.now ends.now bases.now }
 {

@@ -1,14 +1,11 @@
 use native.Mathlib.Omega.{arith}
 use mathlib.Core.Path.{refl, sym, ◌∙◌}
 use borrow.Author.Rules.{rules}
-use Rattle.bytestrings.proofs.SameLaws.{same_length, same_next, same_differs, same_end}
+use Rattle.bytestrings.proofs.SameLaws.{same_next, same_differs, same_end}
 use Rattle.bytestrings.proofs.same_bytes.Goals as goal
 
-pub returns-then-a-b : goal.returns-then-a-b
-returns-then-a-b c = sym (same_length c.args.a.now c.args.b.now c.if-a-b.true)
-
 pub loop-i-init : goal.loop-i-init
-loop-i-init c = (search rules, c.if-a-b.false, refl)
+loop-i-init c = (search rules, omega arith, refl)
 
 pub bounds-b-i : goal.bounds-b-i
 bounds-b-i c =

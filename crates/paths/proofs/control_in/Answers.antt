@@ -1,10 +1,11 @@
-use Rattle.bytestrings.proofs.ByteInLaws.{scanned_begin, scanned_here, scanned_other, scanned_end, Either, first_in, second_in}
+use Rattle.bytestrings.proofs.ByteInLaws.{scanned_begin, scanned_here, scanned_other, scanned_step, scanned_end, Either, first_in, second_in}
 use mathlib.Core.Logic.{inl, inr, ⊎_elim}
 use native.Mathlib.Omega.{arith}
+use borrow.Author.Rules.{rules}
 use Rattle.paths.specs.Paths.{ControlByte}
 use Rattle.paths.proofs.control_in.Invariants.{Low, Delete}
 use Rattle.paths.proofs.control_in.Goals as goal
-use Rattle.paths.proofs.control_in.Goals.{then-path-i-lt-CONTROL_END, else-path-i-lt-CONTROL_END, then-path-i-eq-DELETE, else-path-i-eq-DELETE}
+use Rattle.paths.proofs.control_in.Goals.{then-path-i-lt-CONTROL_END, else-path-i-lt-CONTROL_END}
 
 low-or-delete : Either ControlByte Low Delete
 low-or-delete b =
@@ -39,10 +40,7 @@ loop-j-preserved c =
         | then-path-i-lt-CONTROL_END w ↦ scanned_here Low _ _ _ _ (omega arith) w.low-is
         | else-path-i-lt-CONTROL_END w ↦ scanned_other Low _ _ _ _ _ (λ l. absurd (omega (arith, l))) at.1 w.low-is
       ],
-      elim c.if-path-i-eq-DELETE.branch [
-        | then-path-i-eq-DELETE w ↦ scanned_here Delete _ _ _ _ (omega arith) w.delete-is
-        | else-path-i-eq-DELETE w ↦ scanned_other Delete _ _ _ _ _ (λ e. absurd (omega (arith, e))) at.2 w.delete-is
-      ],
+      scanned_step Delete _ _ _ _ _ (search rules) (search rules) at.2,
     )
 
 pub returns-then-low : goal.returns-then-low

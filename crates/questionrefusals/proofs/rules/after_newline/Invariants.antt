@@ -1,4 +1,4 @@
--- `refusals::rules::after_newline` meets its contract. No newline stands between the place reached and the end.
+-- `questionrefusals::rules::after_newline` meets its contract. No newline stands between the place reached and the end.
 use Prim.Native.Nat.{ℕ, ◌-◌, ◌<◌, ◌≤◌}
 use mathlib.Core.Path.{◌≡◌}
 use lib.ListN.{get_or}

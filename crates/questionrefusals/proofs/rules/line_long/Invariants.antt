@@ -1,4 +1,4 @@
--- `refusals::rules::line_long` meets its contract. The files not yet passed decide.
+-- `questionrefusals::rules::line_long` meets its contract. The files not yet passed decide.
 use Rattle.questionrefusals.specs.Conditions.{LongLine}
 use Rattle.questionrefusals.proofs.LongLaws.{LongFiles}
 use Rattle.rulefiles.specs.RuleFiles.{files_from}

@@ -1,4 +1,4 @@
--- `refusals::rules::long_in` meets its contract. The lines from `at` on decide.
+-- `questionrefusals::rules::long_in` meets its contract. The lines from `at` on decide.
 use Rattle.questionrefusals.specs.inner.Scans.{LongIn}
 use mathlib.Core.Logic.{◌↔◌}
 use Prim.Native.Nat.{◌-◌, ◌≤◌}

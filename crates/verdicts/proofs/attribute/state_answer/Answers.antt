@@ -1,4 +1,4 @@
--- `questions::attribute::state_answer` meets its contract: the state is what is answered.
+-- `verdicts::attribute::state_answer` meets its contract: the state is what is answered.
 use Rattle.answers.specs.Complete.{complete_attribute}
 use Rattle.verdicts.proofs.attribute.state_answer.Goals as goal
 

@@ -1,4 +1,4 @@
--- `questions::state::after_file` meets its contract: the decision before a line is overridden by that of the lines from there on.
+-- `verdicts::state::after_file` meets its contract: the decision before a line is overridden by that of the lines from there on.
 use Prim.Native.Nat.{◌+◌, ◌-◌, ◌≤◌}
 use mathlib.Core.Path.{◌≡◌}
 use lib.ListN.{length, drop}

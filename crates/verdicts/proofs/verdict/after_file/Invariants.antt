@@ -1,4 +1,4 @@
--- `questions::verdict::after_file` meets its contract: the decision before a line is overridden by that of the lines from there on.
+-- `verdicts::verdict::after_file` meets its contract: the decision before a line is overridden by that of the lines from there on.
 use Rattle.verdicts.specs.inner.Scan.{ignore_at, verdict_decision_of, last_in, last_in_file}
 use Prim.Native.Nat.{◌+◌, ◌-◌, ◌≤◌}
 use mathlib.Core.Path.{◌≡◌}
