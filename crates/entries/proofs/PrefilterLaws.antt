@@ -1,12 +1,12 @@
 -- The quick tests of last and first bytes exclude only what does not match.
 use Prim.Native.Nat.{ℕ, zero, suc, ◌-◌}
 use native.Mathlib.Omega.{arith}
-use mathlib.Core.Path.{◌≡◌, refl, sym, ◌∙◌}
+use mathlib.Core.Path.{◌≡◌, refl, sym, ap, subst, ◌∙◌}
 use mathlib.Core.Bool.{Bool, true, false, cond, not, ◌&&◌, false≢true}
 use mathlib.Core.List.{List, [], ◌∷◌}
 use lib.Dec.{eqb}
-use lib.ListN.{length, get_or}
-use borrow.Author.Tests.{eqb-false, not-true}
+use lib.ListN.{length, get_or, take}
+use borrow.Author.Tests.{eqb-false, ne_eqb, not-true}
 use Rattle.bytestrings.specs.Text.{char}
 use Rattle.bytestrings.specs.Letters.{folded}
 use Rattle.patterns.proofs.LastByteLaws.{Plain, EndsIn, EndTaken, end_taken}
@@ -99,20 +99,38 @@ module _ (subject : Subject) where
 
 -- The first bytes.
 
-begins : (fold : Bool) (c : ℕ) (t : List ℕ) → FirstTaken fold c t → folded fold (λ y. eqb y c) (get_or t 0 0) ≡ true
+is_literal_lem : (c : ℕ) → (c ≡ char "*" → ⊥) → (c ≡ char "?" → ⊥) → (c ≡ char "[" → ⊥) → not (eqb c (char "\\")) ≡ true → is_literal c ≡ true
+unfolding is_literal
+is_literal_lem c a b d e = rw (ne_eqb c (char "*") a, ne_eqb c (char "?") b, ne_eqb c (char "[") d) e
+
+begins : (fold : Bool) (c : ℕ) (t : List ℕ) → FirstTaken fold c t → end_accepted fold c (take 1 t) ≡ true
+unfolding end_accepted
 begins fold c [] h = absurd h
 begins fold c (x ∷ t) h = h
+
+begins_letter : (fold : Bool) (c : ℕ) (t : List ℕ) → FirstTaken fold c t → folded fold (λ y. eqb y c) (get_or t 0 0) ≡ true
+begins_letter fold c [] h = absurd h
+begins_letter fold c (x ∷ t) h = h
 
 module _ (fold : Bool) (t : List ℕ) where
   pub differs_none : (p : List ℕ) → ExcludesText fold p t false
   unfolding ExcludesText
   differs_none p e = absurd (false≢true e)
 
-  pub differs_first : (p : List ℕ) (a r : Bool) → (length p ≡ 0 → ⊥) → a ≡ folded fold (λ y. eqb y (get_or p 0 0)) (get_or t 0 0) → a ≡ false → r ≡ is_literal (get_or p 0 0) → ExcludesText fold p t r
+  pub differs_first : (p : List ℕ) (c : ℕ) (r : Bool) → (length p ≡ 0 → ⊥) → get_or p 0 0 ≡ c → end_accepted fold c (take 1 t) ≡ false → (c ≡ char "*" → ⊥) → (c ≡ char "?" → ⊥) → (c ≡ char "[" → ⊥)
+      → r ≡ not (eqb c (char "\\")) → ExcludesText fold p t r
   unfolding ExcludesText
-  differs_first [] a r l e n q h path = absurd (l refl)
-  differs_first (x ∷ p) a r l e n q h path =
-      false_if_not _ (λ w. not_both (begins fold x t (first_taken (record { path = path; fold = fold }) x p t (sym q ∙ h) w)) (sym e ∙ n))
+  differs_first [] c r l e n a b d q h path = absurd (l refl)
+  differs_first (x ∷ p) c r l e n a b d q h path =
+      let z : is_literal x ≡ true = is_literal_lem x (λ i. a (sym e ∙ i)) (λ i. b (sym e ∙ i)) (λ i. d (sym e ∙ i)) (ap (λ (k : ℕ). not (eqb k (char "\\"))) e ∙ sym q ∙ h) in
+      false_if_not _ (λ w. not_both (begins fold c t (subst (λ (k : ℕ). FirstTaken fold k t) e (first_taken (record { path = path; fold = fold }) x p t z w))) n)
+
+  pub differs_literal : (p : List ℕ) (a r : Bool) → (length p ≡ 0 → ⊥) → a ≡ folded fold (λ y. eqb y (get_or p 0 0)) (get_or t 0 0)
+      → a ≡ false → r ≡ is_literal (get_or p 0 0) → ExcludesText fold p t r
+  unfolding ExcludesText
+  differs_literal [] a r l e n q h path = absurd (l refl)
+  differs_literal (x ∷ p) a r l e n q h path =
+      false_if_not _ (λ w. not_both (begins_letter fold x t (first_taken (record { path = path; fold = fold }) x p t (sym q ∙ h) w)) (sym e ∙ n))
 
 -- and a pattern that is asked about anyhow
 pub text_differs : (m : Mode) (p t : List ℕ) (r : Bool) → ExcludesText m.fold p t r → r ≡ true → false ≡ matches_test m p t

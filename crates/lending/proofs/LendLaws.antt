@@ -2,12 +2,12 @@
 use mathlib.Core.Path.{◌≡◌, refl, sym, ap, ◌∙◌}
 use mathlib.Core.Bool.{Bool, true, false, cond}
 use mathlib.Core.Logic.{inl, inr}
-use mathlib.Core.List.{List, [], ◌∷◌, ◌++◌}
+use mathlib.Core.List.{List, [], ◌∷◌, ◌++◌, append-nil, append_assoc}
 use Prim.Native.Nat.{ℕ, ◌+◌, ◌-◌, ◌<◌, ◌≤◌}
 use native.Mathlib.Numerals.{add-one}
 use native.Mathlib.Omega.{arith}
-use lib.ListN.{length, take, drop, get_or, set, length-append, length-set, drop_of_length-le}
-use lib.Seq.{paste, take-paste, length-paste, take-length, take-suc-set, length-take-le}
+use lib.ListN.{length, take, drop, get_or, set, length-append, length-set, length-drop, drop_of_length-le}
+use lib.Seq.{paste, take-paste, length-paste, take-length, take_all, drop-drop, take-suc-set, length-take-le}
 use Rattle.rulefiles.specs.RuleFiles.{bytes_between}
 use Rattle.bytestrings.proofs.SliceLaws.{next}
 use Rattle.lending.specs.declared.Lent.{Lent}
@@ -24,6 +24,14 @@ holds_taken l lent r e b m h = rw (h.0.1, h.1.0.1, h.1.1.0.1, h.1.1.1.1)
 pub holds_within : (l : Lists) (lent : Lent) (r e b m : List ℕ) → Holds l lent r e b m → Within lent r e b m
 unfolding Holds Within
 holds_within l lent r e b m h = (h.0.0, (h.1.0.0, (h.1.1.0.0, h.1.1.1.0)))
+
+-- bytes copied into the part from a place on, and that part back in its buffer
+pub copied : (at : ℕ) (r f : List ℕ) → at ≤ length r
+    → take at r ++ ((take (length f) f ++ drop (length f) (take (length r - at) (drop at r))) ++ drop (length r - at) (drop at r)) ≡ paste r at f (length f)
+copied at r f h =
+    let rest : length (drop at r) ≤ length r - at = simp length-drop (omega arith) in
+    rw (drop_of_length-le (drop at r) {i = length r - at} rest, take_all (length r - at) (drop at r) rest, append-nil, drop-drop (length f) at r)
+    (sym (append_assoc (take at r) (take (length f) f) (drop (at + length f) r)))
 
 -- a number stored behind the first n
 stored : (n v : ℕ) (s : List ℕ) (x : ℕ) → n < length s → v ≡ x → (n + 1 ≤ length (set s n v)) × (take (n + 1) (set s n v) ≡ take n s ++ x ∷ [])

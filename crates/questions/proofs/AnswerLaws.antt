@@ -1,12 +1,15 @@
 -- Each answer of the two questions is as specs/Answers.antt has it.
 use Prim.Native.Nat.{ℕ, ◌≤◌}
 use mathlib.Core.Path.{◌≡◌, ap, subst, ◌∙◌}
+use mathlib.Core.Option.{Option}
 use mathlib.Core.Logic.{◌↔◌}
 use mathlib.Core.Bool.{Bool}
 use mathlib.Core.List.{List}
 use Rattle.refusals.specs.Refusals.{Lowest, Accepted, LowestOrNone}
 use Rattle.questionrefusals.specs.Conditions.{IgnoreRefuses, AttributeRefuses}
 use Rattle.refusals.proofs.LowestLaws.{lowest_one, lowest_refuses}
+use Rattle.rulefiles.specs.Decisions.{Decision}
+use Rattle.attributelines.specs.declared.State.{State}
 use Rattle.rulefiles.specs.RuleFiles.{ordered_lines}
 use Rattle.refusals.specs.Flags.{flag_one, flag_two}
 use Rattle.verdicts.specs.Verdicts.{verdict, attribute_state, parents, top_down}
@@ -60,14 +63,13 @@ module _ (path rules ends bases name : List ℕ) (flags : ℕ) where
         accepted = λ a. absurd (lowest_refuses (AttributeRefuses path rules ends bases name flags) k l a);
       }
 
-  pub attribute_answered : (k : ℕ) (directory fold : Bool) (answer : Complete) → LowestOrNone (AttributeRefuses path rules ends bases name flags) k → k ≡ 0
+  pub attribute_answered : (k : ℕ) (directory fold : Bool) (last : Option (Decision State)) (answer : Complete) → LowestOrNone (AttributeRefuses path rules ends bases name flags) k → k ≡ 0
       → directory ≡ flag_one flags → fold ≡ flag_two flags
-      → answer ≡ state_answer (attribute_state fold name (ordered_lines rules ends bases) (entry_of path directory)) → AttributeAnswered path rules ends bases name flags answer
+      → last ≡ attribute_state fold name (ordered_lines rules ends bases) (entry_of path directory) → answer ≡ state_answer last → AttributeAnswered path rules ends bases name flags answer
   unfolding attribute_answer path_entry folds
-  attribute_answered k directory fold answer f z d g e =
+  attribute_answered k directory fold last answer f z d g e q =
       let h = f.accepted z in
-      let s = attribute_state fold name (ordered_lines rules ends bases) (entry_of path directory) in
       record {
-        refused = not_refused (AttributeRefuses path rules ends bases name flags) answer (rw e (state-answer-small s)) h;
-        accepted = λ a. e ∙ rw (d, g);
+        refused = not_refused (AttributeRefuses path rules ends bases name flags) answer (rw q (state-answer-small last)) h;
+        accepted = λ a. q ∙ ap state_answer e ∙ rw (d, g);
       }

@@ -1,5 +1,5 @@
 -- `entries::prefilter::first_byte_excludes` meets its contract: it answers yes only for a literal that does not accept the first byte.
-use Rattle.entries.proofs.PrefilterLaws.{differs_none, differs_first}
+use Rattle.entries.proofs.PrefilterLaws.{differs_none, differs_literal}
 use Rattle.entries.proofs.prefilter.first_byte_excludes.Goals as goal
 
 pub returns-then-pattern-eq0 : goal.returns-then-pattern-eq0
@@ -13,4 +13,4 @@ returns-then-same_letter c = differs_none _ _ _
 
 pub returns : goal.returns
 returns c =
-    differs_first _ _ _ _ _ c.if-pattern-eq0.false c.same_letter.ensures c.if-same_letter.false c.is_literal.ensures
+    differs_literal _ _ _ _ _ c.if-pattern-eq0.false c.same_letter.ensures c.if-same_letter.false c.is_literal.ensures

@@ -1,4 +1,5 @@
 -- `questions::attribute::attribute` meets its contract: a refusal is the lowest; an accepted question has its answer.
+use mathlib.Core.Path.{refl}
 use Rattle.questions.proofs.AnswerLaws.{attribute_refused, attribute_answered}
 use Rattle.questions.proofs.attribute.attribute.Goals as goal
 
@@ -7,5 +8,5 @@ returns-then-refusal-ne0 c = attribute_refused _ _ _ _ _ _ _ c.attribute_refusal
 
 pub returns : goal.returns
 returns c =
-    attribute_answered _ _ _ _ _ _ _ _ _ _ c.attribute_refusal-refusal.ensures c.if-refusal-ne0.false c.flag_one.ensures c.flag_two.ensures
-    c.attribute_answer.ensures
+    attribute_answered _ _ _ _ _ _ _ _ _ _ _ c.attribute_refusal-refusal.ensures c.if-refusal-ne0.false c.flag_one.ensures c.flag_two.ensures
+    refl c.attribute_answer.ensures
