@@ -1,11 +1,10 @@
-use Rattle.bytestrings.proofs.ByteInLaws.{scanned_begin, scanned_here, scanned_other, scanned_step, scanned_end, Either, first_in, second_in}
+use Rattle.bytestrings.proofs.ByteInLaws.{scanned_begin, scanned_step, scanned_end, Either, first_in, second_in}
 use mathlib.Core.Logic.{inl, inr, ⊎_elim}
 use native.Mathlib.Omega.{arith}
 use borrow.Author.Rules.{rules}
 use Rattle.paths.specs.Paths.{ControlByte}
 use Rattle.paths.proofs.control_in.Invariants.{Low, Delete}
 use Rattle.paths.proofs.control_in.Goals as goal
-use Rattle.paths.proofs.control_in.Goals.{then-path-i-lt-CONTROL_END, else-path-i-lt-CONTROL_END}
 
 low-or-delete : Either ControlByte Low Delete
 low-or-delete b =
@@ -36,10 +35,7 @@ pub loop-j-preserved : goal.loop-j-preserved
 loop-j-preserved c =
     let at = c.loop-j.invariant in (
       omega (arith, at.0),
-      elim c.if-path-i-lt-CONTROL_END.branch [
-        | then-path-i-lt-CONTROL_END w ↦ scanned_here Low _ _ _ _ (omega arith) w.low-is
-        | else-path-i-lt-CONTROL_END w ↦ scanned_other Low _ _ _ _ _ (λ l. absurd (omega (arith, l))) at.1 w.low-is
-      ],
+      scanned_step Low _ _ _ _ _ (search rules) (search rules) at.1,
       scanned_step Delete _ _ _ _ _ (search rules) (search rules) at.2,
     )
 

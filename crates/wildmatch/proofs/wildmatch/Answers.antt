@@ -1,9 +1,9 @@
 -- `wildmatch::wildmatch` meets its contract: the tests come in the table's order, and each return names its refusal or the answer.
-use Rattle.refusals.specs.Refusals.{Accepted, MatcherRefuses}
 use Rattle.bytestrings.proofs.BoolLaws.{not_if_false}
 use Rattle.refusals.proofs.LowestLaws.{refuses_7, refuses_8, refuses_9, refuses_none}
 use Rattle.wildmatch.proofs.AnswerLaws.{answers, gives_refused, gives_matched, gives_broken, gives_unmatched}
 use mathlib.Core.Logic.{inl, inr}
+use borrow.Author.Rules.{rules}
 use Rattle.wildmatch.proofs.wildmatch.Goals as goal
 
 pub returns-then-too_long : goal.returns-then-too_long
@@ -25,24 +25,15 @@ returns-then-flags_high c =
 
 pub returns-then-matches : goal.returns-then-matches
 returns-then-matches c =
-    let accepted : Accepted (MatcherRefuses c.args.pattern.now c.args.text.now c.args.flags) =
-    refuses_none _ _ _ (not_if_false c.too_long.ensures c.if-too_long.false) (not_if_false c.holds_zero.ensures c.if-holds_zero.false)
-    (not_if_false c.holds_zero-2.ensures c.if-holds_zero-2.false) (not_if_false c.flags_high.ensures c.if-flags_high.false) in
-    answers _ _ _ _ (gives_matched _ _ _ accepted _ _ c.mode_of.ensures c.matches.ensures c.if-matches.true)
+    answers _ _ _ _ (gives_matched _ _ _ (search (rules, refuses_none, not_if_false)) _ _ c.mode_of.ensures c.matches.ensures c.if-matches.true)
 
 pub returns-in-Unbroken : goal.returns-in-Unbroken
 returns-in-Unbroken c =
-    let accepted : Accepted (MatcherRefuses c.args.pattern.now c.args.text.now c.args.flags) =
-    refuses_none _ _ _ (not_if_false c.too_long.ensures c.if-too_long.false) (not_if_false c.holds_zero.ensures c.if-holds_zero.false)
-    (not_if_false c.holds_zero-2.ensures c.if-holds_zero-2.false) (not_if_false c.flags_high.ensures c.if-flags_high.false) in
     answers _ _ _ _
-    (gives_unmatched _ _ _ accepted _ _ _ c.mode_of.ensures
+    (gives_unmatched _ _ _ (search (rules, refuses_none, not_if_false)) _ _ _ c.mode_of.ensures
     c.matches.ensures c.if-matches.false c.broken_at.ensures c.in-Unbroken.is)
 
 pub returns-in-Broken : goal.returns-in-Broken
 returns-in-Broken c =
-    let accepted : Accepted (MatcherRefuses c.args.pattern.now c.args.text.now c.args.flags) =
-    refuses_none _ _ _ (not_if_false c.too_long.ensures c.if-too_long.false) (not_if_false c.holds_zero.ensures c.if-holds_zero.false)
-    (not_if_false c.holds_zero-2.ensures c.if-holds_zero-2.false) (not_if_false c.flags_high.ensures c.if-flags_high.false) in
     answers _ _ _ _
-    (gives_broken _ _ _ accepted _ _ c.broken_at.ensures c.in-Broken.is)
+    (gives_broken _ _ _ (search (rules, refuses_none, not_if_false)) _ _ c.broken_at.ensures c.in-Broken.is)

@@ -1,19 +1,16 @@
 use mathlib.Core.Path.{sym, ap, ◌∙◌}
-use mathlib.Core.Bool.{not}
 use Prim.Native.Nat.{◌+◌, ◌≤◌}
 use native.Mathlib.Omega.{arith}
-use lib.Dec.{eqb}
-use lib.ListN.{length, get_or}
+use lib.ListN.{length}
 use borrow.Author.Tests.{eq-eqb}
 use borrow.Author.Rules.{rules}
 use Rattle.classes.specs.Members.{until_close}
 use Rattle.bytestrings.proofs.SliceLaws.{from-drop}
-use Rattle.classes.proofs.MemberLaws.{NotClose, first_goes_on, other_goes_on}
+use Rattle.classes.proofs.MemberLaws.{first_goes_on, other_goes_on}
 use Rattle.brokenplaces.proofs.MeasureLaws.{Turn, name_next, left_all, left_none, left_close, name_turn, plain_turn}
 use Rattle.brokenplaces.proofs.sizes.members_size.Goals as goal
-use Rattle.brokenplaces.proofs.sizes.members_size.Goals.{else-q-i-eq93-via-then-q-i-eq93+else-i-ne0, else-q-i-eq93-via-else-q-i-eq93}
 
--- In the answers: `goes_on`, past the test for `]`, by both of its ways; `two`, a `[:` has room; `named`, what a `[:` begins is passed;
+-- In the answers: `two`, a `[:` has room; `named`, what a `[:` begins is passed;
 -- `plain`, and any other member.
 
 pub loop-i-init : goal.loop-i-init
@@ -84,42 +81,26 @@ plain_size-n-requires c =
 
 pub returns-then-n-eq0-2 : goal.returns-then-n-eq0-2
 returns-then-n-eq0-2 c =
-    let goes_on : NotClose (eqb c.loop-i.i 0) (get_or c.args.q.now c.loop-i.i 0) = elim c.else-q-i-eq93.branch [
-      | else-q-i-eq93-via-then-q-i-eq93+else-i-ne0 w ↦ first_goes_on _ _ (ap not (eq-eqb c.loop-i.i 0 w.if-i-ne0.false))
-      | else-q-i-eq93-via-else-q-i-eq93 w ↦ other_goes_on _ _ w.if-q-i-eq93.false
-    ] in
     let plain : Turn c.args.q.now c.loop-i.i c.plain_size-n.result c.loop-i.close =
-    plain_turn _ _ _ _ (omega arith) c.loop-i.invariant.1 c.loop-i.invariant.2 goes_on c.plain_size-n.ensures in
+    plain_turn _ _ _ _ (omega arith) c.loop-i.invariant.1 c.loop-i.invariant.2 (search (rules, first_goes_on, other_goes_on, eq-eqb)) c.plain_size-n.ensures in
     let h = plain.0 c.if-n-eq0-2.true in omega arith
 
 pub overflow_add-i-else-starts_name : goal.overflow_add-i-else-starts_name
 overflow_add-i-else-starts_name c =
-    let goes_on : NotClose (eqb c.loop-i.i 0) (get_or c.args.q.now c.loop-i.i 0) = elim c.else-q-i-eq93.branch [
-      | else-q-i-eq93-via-then-q-i-eq93+else-i-ne0 w ↦ first_goes_on _ _ (ap not (eq-eqb c.loop-i.i 0 w.if-i-ne0.false))
-      | else-q-i-eq93-via-else-q-i-eq93 w ↦ other_goes_on _ _ w.if-q-i-eq93.false
-    ] in
     let plain : Turn c.args.q.now c.loop-i.i c.plain_size-n.result c.loop-i.close =
-    plain_turn _ _ _ _ (omega arith) c.loop-i.invariant.1 c.loop-i.invariant.2 goes_on c.plain_size-n.ensures in
+    plain_turn _ _ _ _ (omega arith) c.loop-i.invariant.1 c.loop-i.invariant.2 (search (rules, first_goes_on, other_goes_on, eq-eqb)) c.plain_size-n.ensures in
     let h = plain.1 c.if-n-eq0-2.false in omega arith
 
 pub loop-i-smaller : goal.loop-i-smaller
 loop-i-smaller c =
-    let goes_on : NotClose (eqb c.loop-i.i 0) (get_or c.args.q.now c.loop-i.i 0) = elim c.else-q-i-eq93.branch [
-      | else-q-i-eq93-via-then-q-i-eq93+else-i-ne0 w ↦ first_goes_on _ _ (ap not (eq-eqb c.loop-i.i 0 w.if-i-ne0.false))
-      | else-q-i-eq93-via-else-q-i-eq93 w ↦ other_goes_on _ _ w.if-q-i-eq93.false
-    ] in
     let plain : Turn c.args.q.now c.loop-i.i c.plain_size-n.result c.loop-i.close =
-    plain_turn _ _ _ _ (omega arith) c.loop-i.invariant.1 c.loop-i.invariant.2 goes_on c.plain_size-n.ensures in
+    plain_turn _ _ _ _ (omega arith) c.loop-i.invariant.1 c.loop-i.invariant.2 (search (rules, first_goes_on, other_goes_on, eq-eqb)) c.plain_size-n.ensures in
     let h = plain.1 c.if-n-eq0-2.false in omega arith
 
 pub loop-i-preserved : goal.loop-i-preserved
 loop-i-preserved c =
-    let goes_on : NotClose (eqb c.loop-i.i 0) (get_or c.args.q.now c.loop-i.i 0) = elim c.else-q-i-eq93.branch [
-      | else-q-i-eq93-via-then-q-i-eq93+else-i-ne0 w ↦ first_goes_on _ _ (ap not (eq-eqb c.loop-i.i 0 w.if-i-ne0.false))
-      | else-q-i-eq93-via-else-q-i-eq93 w ↦ other_goes_on _ _ w.if-q-i-eq93.false
-    ] in
     let plain : Turn c.args.q.now c.loop-i.i c.plain_size-n.result c.loop-i.close =
-    plain_turn _ _ _ _ (omega arith) c.loop-i.invariant.1 c.loop-i.invariant.2 goes_on c.plain_size-n.ensures in
+    plain_turn _ _ _ _ (omega arith) c.loop-i.invariant.1 c.loop-i.invariant.2 (search (rules, first_goes_on, other_goes_on, eq-eqb)) c.plain_size-n.ensures in
     (plain.1 c.if-n-eq0-2.false).1
 
 pub returns : goal.returns

@@ -1,4 +1,4 @@
-use mathlib.Core.Path.{ap, ◌∙◌}
+use mathlib.Core.Path.{ap}
 use Prim.Native.Nat.{◌+◌}
 use native.Mathlib.Omega.{arith}
 use borrow.Author.Rules.{rules}
@@ -6,7 +6,6 @@ use Rattle.classes.specs.inner.Scan.{step_of, plain_places, PlainTo}
 use Rattle.classes.proofs.PlainLaws.{plain_none, plain_less, plain-within}
 use Rattle.classes.proofs.ScanLaws.{left_all, left_none, left_close, left_broken, left_size, left_turn, found_before, found_now}
 use Rattle.classes.proofs.class.scan_members.Goals as goal
-use Rattle.classes.proofs.class.scan_members.Goals.{else-hit, else-hit-2, else-hit-3, else-hit-4, then-hit, then-hit-2, then-hit-3, then-hit-4}
 
 pub loop-i-init : goal.loop-i-init
 loop-i-init c = (search rules, left_all _ _ _, plain_none _ _ _ (omega arith))
@@ -35,7 +34,7 @@ loop-i-smaller-in-Byte c =
 pub loop-i-preserved-in-Byte : goal.loop-i-preserved-in-Byte
 loop-i-preserved-in-Byte c =
     left_turn _ _ _ _ _ _ c.next_at.ensures.0 c.loop-i.invariant.1 _ _ (ap step_of c.in-Byte.is) _ c.loop-i-test.true c.loop-i.invariant.2 _
-    (elim c.if-hit.branch [ then-hit w ↦ w.hit-is ∙ found_before _ _ _ _ w.if-hit.true | else-hit w ↦ w.hit-is ∙ found_now _ _ _ _ w.if-hit.false _ w.byte_lists-hit.ensures ])
+    (search (rules, found_before, found_now))
 
 pub overflow_add-i-in-Range : goal.overflow_add-i-in-Range
 overflow_add-i-in-Range c =
@@ -50,7 +49,7 @@ loop-i-smaller-in-Range c =
 pub loop-i-preserved-in-Range : goal.loop-i-preserved-in-Range
 loop-i-preserved-in-Range c =
     left_turn _ _ _ _ _ _ c.next_at.ensures.0 c.loop-i.invariant.1 _ _ (ap step_of c.in-Range.is) _ c.loop-i-test.true c.loop-i.invariant.2 _
-    (elim c.if-hit-2.branch [ then-hit-2 w ↦ w.hit-is ∙ found_before _ _ _ _ w.if-hit-2.true | else-hit-2 w ↦ w.hit-is ∙ found_now _ _ _ _ w.if-hit-2.false _ w.range_lists-hit.ensures ])
+    (search (rules, found_before, found_now))
 
 pub overflow_add-i-in-Name : goal.overflow_add-i-in-Name
 overflow_add-i-in-Name c =
@@ -65,7 +64,7 @@ loop-i-smaller-in-Name c =
 pub loop-i-preserved-in-Name : goal.loop-i-preserved-in-Name
 loop-i-preserved-in-Name c =
     left_turn _ _ _ _ _ _ c.next_at.ensures.0 c.loop-i.invariant.1 _ _ (ap step_of c.in-Name.is) _ c.loop-i-test.true c.loop-i.invariant.2 _
-    (elim c.if-hit-3.branch [ then-hit-3 w ↦ w.hit-is ∙ found_before _ _ _ _ w.if-hit-3.true | else-hit-3 w ↦ w.hit-is ∙ found_now _ _ _ _ w.if-hit-3.false _ w.name_lists-hit.ensures ])
+    (search (rules, found_before, found_now))
 
 pub overflow_add-plain : goal.overflow_add-plain
 overflow_add-plain c =
@@ -97,7 +96,7 @@ loop-i-preserved c =
     let plain-found : PlainTo c.args.q.now (c.loop-i.i + 2) (c.loop-i.i + 2 + c.in-Plain.n + 1) =
     plain_less _ _ _ _ _ (omega arith) (omega arith) c.next_at.ensures.1 in
     left_turn _ _ _ _ _ _ c.next_at.ensures.0 c.loop-i.invariant.1 _ _ (ap step_of c.in-Plain.is) _ c.loop-i-test.true plain-found _
-    (elim c.if-hit-4.branch [ then-hit-4 w ↦ w.hit-is ∙ found_before _ _ _ _ w.if-hit-4.true | else-hit-4 w ↦ w.hit-is ∙ found_now _ _ _ _ w.if-hit-4.false _ w.byte_lists-hit-else-hit-4.ensures ])
+    (search (rules, found_before, found_now))
 
 pub returns : goal.returns
 returns c = left_none _ _ _ _ _ c.loop-i-test.false c.loop-i.invariant.1
