@@ -3,20 +3,23 @@ use Prim.Native.Nat.{ℕ, zero, suc, ◌+◌, ◌-◌, ◌≤◌, ◌<◌}
 use native.Mathlib.Omega.{arith}
 use mathlib.Core.Path.{◌≡◌, refl, sym, ap, subst, ◌∙◌}
 use mathlib.Core.Logic.{◌⊎◌, inl, inr, ⊎_elim, ◌↔◌}
+use Rattle.std.proofs.lemmas.Bool.{cases_lt}
+use Rattle.std.specs.Prelude.{Option, None, Some, Result, Ok, Err}
 use mathlib.Core.List.{List, [], ◌∷◌, cons≢nil}
 use lib.ListN.{length, get_or}
 use Rattle.rulefiles.specs.declared.Place.{Place}
 use Rattle.refusals.specs.Refusals.{Lowest, Accepted}
-use Rattle.bytestrings.proofs.OrderLaws.{before_or_not}
 use Rattle.refusals.proofs.LowestLaws.{none_lowest}
-use Rattle.ignorelines.specs.IgnoreLines.{Verdict, ignored, re_included}
+use Rattle.ignorelines.specs.declared.Verdict.{Verdict}
+use Rattle.ignorelines.specs.declared.Verdict.TheVariants.{Ignored, Reincluded}
 use Rattle.attributelines.specs.declared.State.{State}
 use Rattle.attributelines.specs.declared.State.TheVariants.{Set, Unset, Value, Unspecified}
-use Rattle.answers.specs.Complete.{Complete, refusal, verdict_number, state_number, state_values, stated, complete_ignore, complete_attribute}
-use Rattle.answers.specs.declared.IgnoreAnswer.{IgnoreAnswer}
-use Rattle.answers.specs.declared.IgnoreAnswer.TheVariants.{Undecided, Ignored, Reincluded, Refused}
-use Rattle.answers.specs.declared.AttributeAnswer.{AttributeAnswer}
-use Rattle.answers.specs.declared.AttributeAnswer.TheVariants.{Undecided as AttributeUndecided, Decided, Refused as AttributeRefused}
+use Rattle.answers.specs.Complete.{Complete, refusal, verdict_number, state_number, state_values, decided, stated, IgnoreAnswer, AttributeAnswer, complete_ignore, complete_attribute}
+use Rattle.answers.specs.declared.DecidedEntry.{DecidedEntry}
+use Rattle.rulefiles.specs.declared.Decision.{Decision}
+use Rattle.refusals.specs.declared.refusal.Refusal.{Refusal}
+use Rattle.refusals.specs.Numbers.{number_of}
+use Rattle.refusals.proofs.NumberLaws.{refusal_of, refusal_of_number}
 
 pub refusal_one : (n k : ℕ) → refusal n ≡ refusal k → n ≡ k
 refusal_one n k e = let z : 16 + n ≡ 16 + k = ap (λ (c : Complete). c.number) e in omega (arith, z)
@@ -34,8 +37,8 @@ state-small (Value v) = omega arith
 state-small Unspecified = omega arith
 
 pub verdict-small : (v : Verdict) → verdict_number v ≤ 4
-verdict-small ignored = omega arith
-verdict-small re_included = omega arith
+verdict-small Ignored = omega arith
+verdict-small Reincluded = omega arith
 
 -- What an answer that meets a question's contract is: refused alike, and alike where the question is accepted.
 
@@ -50,7 +53,7 @@ refusal_or_not a = go a.values refl
     go [] f =
         ⊎_elim (λ l. inr (λ n e. let z : a.number ≡ 16 + n = ap (λ (c : Complete). c.number) e in omega (arith, z, l)))
         (λ l. inl (a.number - 16, alike a (16 + (a.number - 16)) [] (omega (arith, l)) f))
-        (before_or_not a.number 16)
+        (cases_lt a.number 16)
 
 module _ (C : ℕ → Type 0) (answer : Complete) where
   -- a number from 16 on is a refusal's
@@ -84,12 +87,15 @@ ignore_none (suc zero) h = absurd (omega arith)
 ignore_none (suc (suc zero)) h = absurd (omega arith)
 ignore_none (suc (suc (suc m))) h = refl
 
+decided_count : (v : Verdict) (n : ℕ) (p : Place) → length (decided v n p).values ≡ ignore_count (decided v n p).number
+decided_count Ignored n p = refl
+decided_count Reincluded n p = refl
+
 pub ignore_count_lem : (a : IgnoreAnswer) → length (complete_ignore a).values ≡ ignore_count (complete_ignore a).number
 unfolding complete_ignore
-ignore_count_lem Undecided = refl
-ignore_count_lem (Ignored d) = refl
-ignore_count_lem (Reincluded d) = refl
-ignore_count_lem (Refused n) = ignore_none (16 + n) (omega arith)
+ignore_count_lem (Ok None) = refl
+ignore_count_lem (Ok (Some e)) = decided_count e.decision.what e.length e.decision.place
+ignore_count_lem (Err r) = ignore_none (16 + number_of r) (omega arith)
 
 abbrev attribute_count : ℕ → ℕ
 attribute_count zero = 0
@@ -116,46 +122,62 @@ stated_count Unspecified p = refl
 
 pub attribute_count_lem : (a : AttributeAnswer) → length (complete_attribute a).values ≡ attribute_count (complete_attribute a).number
 unfolding complete_attribute
-attribute_count_lem AttributeUndecided = refl
-attribute_count_lem (Decided s) = stated_count s.state s.place
-attribute_count_lem (AttributeRefused n) = attribute_none (16 + n) (omega arith)
+attribute_count_lem (Ok None) = refl
+attribute_count_lem (Ok (Some d)) = stated_count d.what d.place
+attribute_count_lem (Err r) = attribute_none (16 + number_of r) (omega arith)
 
 -- From the number and the values back to the answer.
 
 abbrev place_at : ℕ → Complete → Place
 place_at i c = record { file = get_or c.values i 0; line = get_or c.values (suc i) 0 }
 
-abbrev ignore_from : ℕ → Complete → IgnoreAnswer
-ignore_from zero c = Undecided
-ignore_from (suc zero) c = Ignored (record { length = get_or c.values 0 0; place = place_at 1 c })
-ignore_from (suc (suc zero)) c = Reincluded (record { length = get_or c.values 0 0; place = place_at 1 c })
-ignore_from (suc (suc (suc n))) c = Refused (c.number - 16)
+-- what an entry's decision of this number is
+abbrev entry_from : Verdict → Complete → IgnoreAnswer
+entry_from v c = Ok (Some (record { length = get_or c.values 0 0; decision = record { what = v; place = place_at 1 c } }))
 
-ignore_far : (m : ℕ) (c : Complete) → 4 < m → ignore_from m c ≡ Refused (c.number - 16)
+abbrev ignore_from : ℕ → Complete → IgnoreAnswer
+ignore_from zero c = Ok None
+ignore_from (suc zero) c = entry_from Ignored c
+ignore_from (suc (suc zero)) c = entry_from Reincluded c
+ignore_from (suc (suc (suc n))) c = Err (refusal_of (c.number - 16))
+
+ignore_far : (m : ℕ) (c : Complete) → 4 < m → ignore_from m c ≡ Err (refusal_of (c.number - 16))
 ignore_far zero c h = absurd (omega arith)
 ignore_far (suc zero) c h = absurd (omega arith)
 ignore_far (suc (suc zero)) c h = absurd (omega arith)
 ignore_far (suc (suc (suc m))) c h = refl
 
+-- a refusal is known again by its number
+refused_back : (r : Refusal) → refusal_of (16 + number_of r - 16) ≡ r
+refused_back r = let e : 16 + number_of r - 16 ≡ number_of r = omega arith in ap refusal_of e ∙ refusal_of_number r
+
+decided_back : (v : Verdict) (n : ℕ) (p : Place)
+    → ignore_from (decided v n p).number (decided v n p) ≡ Ok (Some (record { length = n; decision = record { what = v; place = p } }))
+decided_back Ignored n p = refl
+decided_back Reincluded n p = refl
+
 ignore_back : (a : IgnoreAnswer) → ignore_from (complete_ignore a).number (complete_ignore a) ≡ a
 unfolding complete_ignore
-ignore_back Undecided = refl
-ignore_back (Ignored d) = refl
-ignore_back (Reincluded d) = refl
-ignore_back (Refused n) = ignore_far (16 + n) (refusal n) (omega arith) ∙ ap Refused (omega arith)
+ignore_back (Ok None) = refl
+ignore_back (Ok (Some e)) = decided_back e.decision.what e.length e.decision.place
+ignore_back (Err r) = ignore_far (16 + number_of r) (refusal (number_of r)) (omega arith) ∙ ap Err (refused_back r)
 
 pub ignore_once : (a b : IgnoreAnswer) → complete_ignore a ≡ complete_ignore b → a ≡ b
 ignore_once a b e = sym (ignore_back a) ∙ ap (λ (c : Complete). ignore_from c.number c) e ∙ ignore_back b
 
-abbrev attribute_from : ℕ → Complete → AttributeAnswer
-attribute_from zero c = AttributeUndecided
-attribute_from (suc zero) c = Decided (record { state = Set; place = place_at 0 c })
-attribute_from (suc (suc zero)) c = Decided (record { state = Unset; place = place_at 0 c })
-attribute_from (suc (suc (suc zero))) c = Decided (record { state = Value (record { start = get_or c.values 0 0; length = get_or c.values 1 0 }); place = place_at 2 c })
-attribute_from (suc (suc (suc (suc zero)))) c = Decided (record { state = Unspecified; place = place_at 0 c })
-attribute_from (suc (suc (suc (suc (suc n))))) c = AttributeRefused (c.number - 16)
+-- what a decided state at this place of the values is
+abbrev state_from : State → ℕ → Complete → AttributeAnswer
+state_from s i c = Ok (Some (record { what = s; place = place_at i c }))
 
-attribute_far : (m : ℕ) (c : Complete) → 4 < m → attribute_from m c ≡ AttributeRefused (c.number - 16)
+abbrev attribute_from : ℕ → Complete → AttributeAnswer
+attribute_from zero c = Ok None
+attribute_from (suc zero) c = state_from Set 0 c
+attribute_from (suc (suc zero)) c = state_from Unset 0 c
+attribute_from (suc (suc (suc zero))) c = state_from (Value (record { start = get_or c.values 0 0; length = get_or c.values 1 0 })) 2 c
+attribute_from (suc (suc (suc (suc zero)))) c = state_from Unspecified 0 c
+attribute_from (suc (suc (suc (suc (suc n))))) c = Err (refusal_of (c.number - 16))
+
+attribute_far : (m : ℕ) (c : Complete) → 4 < m → attribute_from m c ≡ Err (refusal_of (c.number - 16))
 attribute_far zero c h = absurd (omega arith)
 attribute_far (suc zero) c h = absurd (omega arith)
 attribute_far (suc (suc zero)) c h = absurd (omega arith)
@@ -163,7 +185,7 @@ attribute_far (suc (suc (suc zero))) c h = absurd (omega arith)
 attribute_far (suc (suc (suc (suc zero)))) c h = absurd (omega arith)
 attribute_far (suc (suc (suc (suc (suc m))))) c h = refl
 
-stated_back : (s : State) (p : Place) → attribute_from (state_number s) (stated s p) ≡ Decided (record { state = s; place = p })
+stated_back : (s : State) (p : Place) → attribute_from (state_number s) (stated s p) ≡ Ok (Some (record { what = s; place = p }))
 unfolding state_number state_values
 stated_back Set p = refl
 stated_back Unset p = refl
@@ -172,9 +194,9 @@ stated_back Unspecified p = refl
 
 attribute_back : (a : AttributeAnswer) → attribute_from (complete_attribute a).number (complete_attribute a) ≡ a
 unfolding complete_attribute
-attribute_back AttributeUndecided = refl
-attribute_back (Decided s) = stated_back s.state s.place
-attribute_back (AttributeRefused n) = attribute_far (16 + n) (refusal n) (omega arith) ∙ ap AttributeRefused (omega arith)
+attribute_back (Ok None) = refl
+attribute_back (Ok (Some d)) = stated_back d.what d.place
+attribute_back (Err r) = attribute_far (16 + number_of r) (refusal (number_of r)) (omega arith) ∙ ap Err (refused_back r)
 
 pub attribute_once : (a b : AttributeAnswer) → complete_attribute a ≡ complete_attribute b → a ≡ b
 attribute_once a b e = sym (attribute_back a) ∙ ap (λ (c : Complete). attribute_from c.number c) e ∙ attribute_back b

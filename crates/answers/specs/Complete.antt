@@ -1,13 +1,14 @@
 -- The *complete answer* of a question, 01's term: its number and values for each case of the two answer types.
-use Rattle.std.specs.Prelude.{ℕ, ◌+◌, List, [], ◌∷◌, ◌++◌}
+use Rattle.std.specs.Prelude.{ℕ, ◌+◌, List, [], ◌∷◌, ◌++◌, Option, None, Some, Result, Ok, Err}
 use Rattle.rulefiles.specs.declared.Place.{Place}
-use Rattle.ignorelines.specs.IgnoreLines.{Verdict, ignored, re_included}
+use Rattle.ignorelines.specs.declared.Verdict.{Verdict}
+use Rattle.ignorelines.specs.declared.Verdict.TheVariants.{Ignored, Reincluded}
 use Rattle.attributelines.specs.declared.State.{State}
 use Rattle.attributelines.specs.declared.State.TheVariants.{Set, Unset, Value, Unspecified}
-use Rattle.answers.specs.declared.IgnoreAnswer.{IgnoreAnswer}
-use Rattle.answers.specs.declared.IgnoreAnswer.TheVariants.{Undecided, Ignored, Reincluded, Refused}
-use Rattle.answers.specs.declared.AttributeAnswer.{AttributeAnswer}
-use Rattle.answers.specs.declared.AttributeAnswer.TheVariants.{Undecided as AttributeUndecided, Decided, Refused as AttributeRefused}
+use Rattle.refusals.specs.declared.refusal.Refusal.{Refusal}
+use Rattle.refusals.specs.Numbers.{number_of}
+use Rattle.rulefiles.specs.declared.Decision.{Decision}
+use Rattle.answers.specs.declared.DecidedEntry.{DecidedEntry}
 
 -- "The complete answer is all that the call returns": its number, as "C results" give it, and its values, "for ignore the verdict, entry length,
 -- file and line; for an attribute the state, a value's start and length, file and line". The values stand in that order, those that there are
@@ -29,8 +30,8 @@ place_values p = p.file ∷ p.line ∷ []
 
 -- "1 ignored, 2 re-included"
 abbrev pub verdict_number : Verdict → ℕ
-verdict_number ignored = 1
-verdict_number re_included = 2
+verdict_number Ignored = 1
+verdict_number Reincluded = 2
 
 -- the verdict of an entry of n bytes: "the answer gives its length, file and line"
 abbrev pub decided : Verdict → ℕ → Place → Complete
@@ -54,15 +55,22 @@ state_values Unspecified = []
 abbrev pub stated : State → Place → Complete
 stated s p = record { number = state_number s; values = state_values s ++ place_values p }
 
+-- an answer of the ignore question: a refusal, or the entry that was decided, if one was
+abbrev pub IgnoreAnswer : Type 0
+IgnoreAnswer = Result (Option DecidedEntry) Refusal
+
+-- of the attribute question: a refusal, or the state that was decided, if a line spoke
+abbrev pub AttributeAnswer : Type 0
+AttributeAnswer = Result (Option (Decision State)) Refusal
+
 -- what each answer of the ignore question is
 unfoldable pub complete_ignore : IgnoreAnswer → Complete
-complete_ignore Undecided = undecided
-complete_ignore (Ignored d) = decided ignored d.length d.place
-complete_ignore (Reincluded d) = decided re_included d.length d.place
-complete_ignore (Refused n) = refusal n
+complete_ignore (Ok None) = undecided
+complete_ignore (Ok (Some e)) = decided e.decision.what e.length e.decision.place
+complete_ignore (Err r) = refusal (number_of r)
 
 -- what each answer of the attribute question is
 unfoldable pub complete_attribute : AttributeAnswer → Complete
-complete_attribute AttributeUndecided = undecided
-complete_attribute (Decided s) = stated s.state s.place
-complete_attribute (AttributeRefused n) = refusal n
+complete_attribute (Ok None) = undecided
+complete_attribute (Ok (Some d)) = stated d.what d.place
+complete_attribute (Err r) = refusal (number_of r)

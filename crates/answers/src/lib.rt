@@ -2,56 +2,52 @@
 // otherwise, answers in these. For a user: docs/RULES.md, "Answers".
 #![tactic(auto)]
 
-ghost use Rattle.std.specs.Prelude.{◌≡◌};
+ghost use Rattle.std.specs.Prelude.{◌≡◌, ◌+◌};
+ghost use Rattle.refusals.specs.Numbers.{number_of};
 ghost use Rattle.answers.specs.Complete.{state_number, complete_ignore, complete_attribute};
 
 use attributelines::State;
-use rulefiles::Place;
+use ignorelines::Verdict;
+use refusals::Refusal;
+use rulefiles::Decision;
 
-// The entry that was decided, by its length, and the place of the line that decided it.
+// The entry that was decided, by its length, and the decision on it.
 #[derive(Clone, Copy)]
 pub struct DecidedEntry {
     pub length: usize,
-    pub place: Place,
+    pub decision: Decision<Verdict>,
 }
 
-// What the ignore question answers: undecided where no line decided; a refusal carries its number and nothing else.
-#[derive(Clone, Copy)]
-pub enum IgnoreAnswer {
-    Undecided,
-    Ignored(DecidedEntry),
-    Reincluded(DecidedEntry),
-    Refused(u8),
-}
-
-// An attribute's state beside the line that decided it.
-#[derive(Clone, Copy)]
-pub struct DecidedState {
-    pub state: State,
-    pub place: Place,
-}
+// What the ignore question answers: none where no line decided.
+pub type IgnoreAnswer = Result<Option<DecidedEntry>, Refusal>;
 
 // What the attribute question answers.
-#[derive(Clone, Copy)]
-pub enum AttributeAnswer {
-    Undecided,
-    Decided(DecidedState),
-    Refused(u8),
+pub type AttributeAnswer = Result<Option<Decision<State>>, Refusal>;
+
+// The number that C gets for a refusal.
+fn refusal_code(refusal: Refusal) -> u32
+    ensures { result ≡ 16 + number_of refusal }
+{
+    16 + u32::from(u8::from(refusal))
 }
 
 // The number that C gets for an answer of the ignore question.
+#[tactic(auto, unfolding(crate::specs::Complete::complete_ignore))]
 pub fn ignore_code(answer: IgnoreAnswer) -> u32
     ensures { result ≡ (complete_ignore answer).number }
 {
     match answer {
-        IgnoreAnswer::Undecided => 0,
-        IgnoreAnswer::Ignored(_) => 1,
-        IgnoreAnswer::Reincluded(_) => 2,
-        IgnoreAnswer::Refused(n) => 16 + (n as u32),
+        Ok(None) => 0,
+        Ok(Some(entry)) => match entry.decision.what {
+            Verdict::Ignored => 1,
+            Verdict::Reincluded => 2,
+        },
+        Err(refusal) => refusal_code(refusal),
     }
 }
 
 // The number that C gets for a state.
+#[tactic(auto, unfolding(crate::specs::Complete::state_number))]
 fn state_code(state: State) -> u32
     ensures { result ≡ state_number state }
 {
@@ -63,16 +59,14 @@ fn state_code(state: State) -> u32
     }
 }
 
-// The number that C gets for an answer of the attribute question.
+// The number that C gets for an answer of the attribute question. (The two have an arm in common, and that is `refusal_code`.)
+#[tactic(auto, unfolding(crate::specs::Complete::complete_attribute))]
 pub fn attribute_code(answer: AttributeAnswer) -> u32
     ensures { result ≡ (complete_attribute answer).number }
 {
     match answer {
-        AttributeAnswer::Undecided => 0,
-        AttributeAnswer::Decided(s) => {
-            let state = s.state;
-            state_code(state)
-        }
-        AttributeAnswer::Refused(n) => 16 + (n as u32),
+        Ok(None) => 0,
+        Ok(Some(decision)) => state_code(decision.what),
+        Err(refused) => refusal_code(refused),
     }
 }

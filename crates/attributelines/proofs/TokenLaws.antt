@@ -7,11 +7,17 @@ use mathlib.Core.Path.{◌≡◌, refl, sym, ap, ◌∙◌}
 use mathlib.Core.Logic.{◌⊎◌, inl, inr, ⊎_elim}
 use mathlib.Core.Bool.{Bool, true, false, not, cond, false≢true}
 use mathlib.Core.List.{List, [], ◌∷◌}
-use lib.ListN.{length, take, drop, length-drop, drop_of_length-le}
-use lib.Seq.{drop-drop}
+use lib.ListN.{length, take, drop, get_or, length-drop, drop_of_length-le}
+use lib.Seq.{drop-drop, get_or-drop}
 use borrow.Author.Tests.{not-true}
 use Rattle.attributelines.specs.AttributeLines.{is_blank, starts_token, Token, widened, tokens}
-use Rattle.attributelines.specs.inner.Scan.{blank_length, token_length}
+use Rattle.std.specs.List.{position_or_len}
+use Rattle.std.proofs.lemmas.List.Recursion.{is_position_or_len}
+use Rattle.std.proofs.lemmas.List.Sums.{position_or_len_is}
+use Rattle.std.proofs.Common.{one-add}
+use Rattle.bytestrings.specs.Bytes.{length_until}
+use Rattle.bytestrings.proofs.UntilLaws.{until_within}
+use Rattle.attributelines.specs.inner.Scan.{blank_length, token_length, IsNextToken}
 
 -- after the blanks stands no blank
 blanks_after : (s : List ℕ) → (drop (blank_length s) s ≡ []) ⊎ (starts_token (drop (blank_length s) s) ≡ true)
@@ -103,3 +109,20 @@ token_long s i start end e h w =
     let o : starts_token (drop start s) ≡ true = ⊎_elim (λ q. absurd (left s start h (sym f ∙ q))) (λ q. ap starts_token (sym f) ∙ q) (blanks_after (drop i s)) in
     let l : 0 < token_length (drop start s) = long (drop start s) o in
     omega arith
+
+-- the place that a search from a place on finds
+pub found_place : (p : ℕ → Bool) (s : List ℕ) (at r : ℕ) → at ≤ r → r ≤ length s → ((j : ℕ) → j < r → at ≤ j → p (get_or s j 0) ≡ false) → (r < length s → p (get_or s r 0) ≡ true)
+    → r ≡ at + length_until p (drop at s)
+found_place p s at r l w passed found =
+    let e = is_position_or_len (length_until p) p refl (λ x xs. ap (cond (p x) 0) (sym (one-add (length_until p xs)))) (drop at s) in
+    let h : position_or_len p (drop at s) ≡ r - at =
+    position_or_len_is p (drop at s) (r - at) 0 (simp length-drop (omega arith))
+    (λ k b. rw (get_or-drop at s k 0) (passed (at + k) (omega arith) (omega arith)))
+    (λ b. let m : at + (r - at) ≡ r = omega arith in rw (get_or-drop at s (r - at) 0, m) (found (omega (arith, b, length-drop at s)))) in
+    omega (arith, e, h)
+
+-- the next token, by what the two searches give
+module _ (s : List ℕ) (at start : ℕ) (w : start ≡ at + blank_length (drop at s)) where
+  pub token_some : (end : ℕ) → at ≤ start → start < length s → end ≡ start + token_length (drop start s) → IsNextToken s at start end
+  token_some end l h e =
+      record { later = l; starts = w; long = token_long s at start end w h e; ends = e; within = (until_within is_blank s start end (omega arith) e).1 }

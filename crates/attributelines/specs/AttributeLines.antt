@@ -1,6 +1,5 @@
 -- Document 01, "Attribute lines": the effect of one line on one attribute of one entry.
-use Rattle.std.specs.Prelude.{ℕ, suc, ◌+◌, ◌-◌, Bool, true, false, not, cond, ◌||◌, ◌&&◌, List, [], ◌∷◌, eqb, ltb, length, take, drop}
-use Rattle.std.proofs.Math.Option.{Option, none, some}
+use Rattle.std.specs.Prelude.{ℕ, suc, ◌+◌, ◌-◌, Bool, true, false, not, cond, ◌||◌, ◌&&◌, List, [], ◌∷◌, eqb, ltb, length, take, drop, Option, None, Some}
 use Rattle.bytestrings.specs.Text.{char, text, tab, carriage_return}
 use Rattle.rulefiles.specs.RuleFiles.{Line}
 use Rattle.rulefiles.specs.Decisions.{override}
@@ -10,8 +9,6 @@ use Rattle.entries.specs.Entries.{Entry, applies, Subject, subject_of, pattern_m
 use Rattle.bytestrings.specs.Bytes.{first_is, has, length_until}
 use Rattle.attributelines.specs.declared.State.{State}
 use Rattle.attributelines.specs.declared.State.TheVariants.{Set, Unset, Value, Unspecified}
-use Rattle.attributelines.specs.declared.Effect.{Effect}
-use Rattle.attributelines.specs.declared.Effect.TheVariants.{None, Assigns}
 
 -- "Blanks are space, tab and CR."
 unfoldable pub is_blank : ℕ → Bool
@@ -81,21 +78,21 @@ pattern_dropped p = first_is (char "#") p || (first_is (char "!") p || (first_is
 
 -- the state that a mention gives an attribute, if it names it
 unfoldable pub state_for : List ℕ → Mention → Option State
-state_for name m = cond (same_bytes m.name name) (some m.state) none
+state_for name m = cond (same_bytes m.name name) (Some m.state) None
 
 -- "on one line, the last mention"
 abbrev pub last_mention : List ℕ → List Token → Option State
-last_mention name [] = none
+last_mention name [] = None
 last_mention name (w ∷ ws) = override (state_for name (mention w.start w.bytes)) (last_mention name ws)
 
 -- the state that a pattern and the mentions after it give. "dropped whole .. if any attribute on it has a bad name"
 unfoldable pub rule_state : Subject → List ℕ → List ℕ → List Token → Option State
 rule_state subject attribute p ws =
-    cond (pattern_dropped p) none (cond (good_names ws) (cond (pattern_matches subject p) (last_mention attribute ws) none) none)
+    cond (pattern_dropped p) None (cond (good_names ws) (cond (pattern_matches subject p) (last_mention attribute ws) None) None)
 
 -- the state that the tokens of a line give. "skip an empty line"; "The pattern runs to the next blank."
 abbrev pub tokens_state : Subject → List ℕ → List Token → Option State
-tokens_state subject attribute [] = none
+tokens_state subject attribute [] = None
 tokens_state subject attribute (p ∷ ws) = rule_state subject attribute p.bytes ws
 
 -- the state that the bytes of a line, at a place of the rule bytes, give an attribute
@@ -105,9 +102,4 @@ line_state subject attribute at bytes = tokens_state subject attribute (tokens a
 -- the effect of a line on an attribute of an entry, if its file applies. "BOM and byte 10 as above": the lines are those of the ignore question
 unfoldable pub attribute_effect : Bool → Entry → List ℕ → Line → Option State
 attribute_effect fold e attribute l =
-    cond (applies l.base e) (line_state (subject_of fold l.base e) attribute l.start l.bytes) none
-
--- the effect that the code's answer stands for
-abbrev pub state_of : Effect → Option State
-state_of None = none
-state_of (Assigns s) = some s
+    cond (applies l.base e) (line_state (subject_of fold l.base e) attribute l.start l.bytes) None

@@ -3,28 +3,28 @@
 #![tactic(auto)]
 
 ghost use Rattle.std.specs.Prelude.{◌≡◌, drop};
-ghost use Rattle.entries.specs.Entries.{against};
-ghost use Rattle.attributelines.specs.AttributeLines.{tokens, definition, pattern_dropped, line_state, state_of};
+ghost use Rattle.entries.specs.Entries.{subject_in};
+ghost use Rattle.attributelines.specs.AttributeLines.{tokens, definition, pattern_dropped, line_state};
 ghost use Rattle.attributelines.specs.inner.Scan.{mentions_state};
 
 mod mention;
 mod tokens;
 
-use crate::mention::{mention_name, mention_state};
-use crate::tokens::{blanks_end, token_end};
+use crate::mention::read_mention;
+use crate::tokens::next_token;
 use attributenames::name_good;
 use bytestrings::same_bytes;
-use entries::pattern_matches;
+use entries::{Subject, pattern_matches};
 
 // A value's place in the rule bytes.
-#[derive(Clone, Copy)]
+#[derive(Clone, Copy, Debug, PartialEq, Eq)]
 pub struct Span {
     pub start: usize,
     pub length: usize,
 }
 
 // An attribute's state where a line decides it.
-#[derive(Clone, Copy)]
+#[derive(Clone, Copy, Debug, PartialEq, Eq)]
 pub enum State {
     Set,
     Unset,
@@ -32,93 +32,51 @@ pub enum State {
     Unspecified,
 }
 
-// The effect of a line on an attribute.
-#[derive(Drop)]
-pub enum Effect {
-    None,
-    Assigns(State),
-}
-
 // Whether the pattern begins with `[attr]` and at least one more byte.
 fn is_definition(pattern: &[u8]) -> bool
     ensures { result ≡ definition pattern.now }
 {
-    if pattern.len() <= 6 {
-        return false;
-    }
-    if pattern[0] != b'[' {
-        return false;
-    }
-    same_bytes(&pattern[1..6], b"attr]")
+    matches!(pattern, [b'[', b'a', b't', b't', b'r', b']', _, ..])
 }
 
 // Whether a line with this pattern is a comment or is dropped.
 fn pattern_dropped(pattern: &[u8]) -> bool
     ensures { result ≡ pattern_dropped pattern.now }
 {
-    if pattern.len() == 0 {
-        return false;
+    match pattern {
+        [b'#' | b'!' | b'"', ..] => true,
+        _ => is_definition(pattern),
     }
-    if pattern[0] == b'#' {
-        return true;
-    }
-    if pattern[0] == b'!' {
-        return true;
-    }
-    if pattern[0] == b'"' {
-        return true;
-    }
-    is_definition(pattern)
 }
 
+// (`same_bytes` has the contract that is needed here; `==` would be tied to the definition once more.)
 // The effect of the mentions from a place of the text on; a bad name among them drops the line.
-fn mentions_effect(text: &[u8], from: usize, attribute: &[u8]) -> Effect
-    ensures { state_of result ≡ mentions_state attribute.now (tokens from (drop from text.now)) }
+fn mentions_effect(text: &[u8], from: usize, attribute: &[u8]) -> Option<State>
+    ensures { result ≡ mentions_state attribute.now (tokens from (drop from text.now)) }
 {
-    let mut effect = Effect::None;
-    let mut i = from;
-    while i < text.len() {
-        let start = blanks_end(text, i);
-        if start == text.len() {
-            return effect;
+    let mut effect = None;
+    let mut at = from;
+    while let Some((start, end)) = next_token(text, at) {
+        let mention = read_mention(&text[start..end], start);
+        if !name_good(mention.name) {
+            return None;
         }
-        let end = token_end(text, start);
-        let name = mention_name(&text[..end], start);
-        if name_good(name) {
-            if same_bytes(name, attribute) {
-                effect = Effect::Assigns(mention_state(&text[..end], start));
-            }
-        } else {
-            return Effect::None;
+        if same_bytes(mention.name, attribute) {
+            effect = Some(mention.state);
         }
-        i = end;
+        at = end;
     }
     effect
 }
 
-// The effect on the attribute of the line that starts at a place of the text and ends with it: the rest is the entry from the base on, the
-// component its last one.
-pub fn line_effect(
-    text: &[u8],
-    at: usize,
-    attribute: &[u8],
-    rest: &[u8],
-    component: &[u8],
-    directory: bool,
-    fold: bool,
-) -> Effect
-    ensures { state_of result ≡ line_state (against rest.now component.now directory fold) attribute.now at (drop at text.now) }
+// The effect on the attribute of the line that starts at a place of the text and ends with it.
+pub fn line_effect(text: &[u8], at: usize, attribute: &[u8], subject: &Subject) -> Option<State>
+    ensures { result ≡ line_state (subject_in subject.now) attribute.now at (drop at text.now) }
 {
-    let start = blanks_end(text, at);
-    if text.len() <= start {
-        return Effect::None;
+    let (start, end) = next_token(text, at)?;
+    let pattern = &text[start..end];
+    if pattern_dropped(pattern) || !pattern_matches(pattern, subject) {
+        return None;
     }
-    let end = token_end(text, start);
-    if pattern_dropped(&text[start..end]) {
-        return Effect::None;
-    }
-    if pattern_matches(&text[start..end], rest, component, directory, fold) {
-        return mentions_effect(text, end, attribute);
-    }
-    Effect::None
+    mentions_effect(text, end, attribute)
 }

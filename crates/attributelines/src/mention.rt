@@ -1,54 +1,63 @@
-// One mention: a token that starts at a place of the text and ends with it.
-ghost use Rattle.std.specs.Prelude.{◌≡◌, ◌+◌, drop};
-ghost use Rattle.attributelines.specs.AttributeLines.{name_length, mention};
+// One mention: a token, which starts at a place of the rule bytes.
+ghost use Rattle.std.specs.Prelude.{◌≡◌, ◌+◌, ◌≤◌, length};
+ghost use Rattle.attributelines.specs.AttributeLines.{name_in, plain_mention, mention};
 
 use crate::{Span, State};
-use bytestrings::find_byte;
+use bytestrings::first_place;
 
-// The place of the next `=`, or the end.
-fn name_end(text: &[u8], at: usize) -> usize
-    ensures { result ≡ at + name_length (drop at text.now) }
-{
-    find_byte(text, at, b'=')
+// The attribute that a mention names, and the state that it gives.
+#[derive(Clone, Copy)]
+pub struct Mention<'a> {
+    pub name: &'a [u8],
+    pub state: State,
 }
 
-// The attribute that the mention names, after a `-` or `!`.
-pub fn mention_name(text: &[u8], at: usize) -> &[u8]
-    ensures { result.now ≡ (mention at (drop at text.now)).name }
+// The bytes before the first `=`, all where there is none.
+fn name_in(token: &[u8]) -> &[u8]
+    ensures { result.now ≡ name_in token.now }
 {
-    if text.len() <= at {
-        return &text[..0];
+    match first_place(token, b'=') {
+        Some(n) => &token[..n],
+        None => token,
     }
-    let b = text[at];
-    if b == b'-' {
-        return &text[at + 1..name_end(text, at + 1)];
-    }
-    if b == b'!' {
-        return &text[at + 1..name_end(text, at + 1)];
-    }
-    &text[at..name_end(text, at)]
 }
 
-// The state that the mention gives.
-pub fn mention_state(text: &[u8], at: usize) -> State
-    ensures { result ≡ (mention at (drop at text.now)).state }
+// The mention of a token that begins with no sign: `name` or `name=v`.
+fn plain_mention(token: &[u8], at: usize) -> Mention<'_>
+    requires { at + length token.now ≤ usize.MAX }
+    ensures name { result.name.now ≡ (plain_mention at token.now).name }
+    ensures state { result.state ≡ (plain_mention at token.now).state }
 {
-    if text.len() <= at {
-        return State::Set;
+    match first_place(token, b'=') {
+        Some(n) => Mention {
+            name: &token[..n],
+            state: State::Value(Span {
+                start: at + n + 1,
+                length: token.len() - (n + 1),
+            }),
+        },
+        None => Mention {
+            name: token,
+            state: State::Set,
+        },
     }
-    let b = text[at];
-    if b == b'-' {
-        return State::Unset;
+}
+
+// The mention that a token is. After `-` or `!`, an `=v` is ignored.
+pub fn read_mention(token: &[u8], at: usize) -> Mention<'_>
+    requires { at + length token.now ≤ usize.MAX }
+    ensures name { result.name.now ≡ (mention at token.now).name }
+    ensures state { result.state ≡ (mention at token.now).state }
+{
+    match token {
+        [b'-', rest @ ..] => Mention {
+            name: name_in(rest),
+            state: State::Unset,
+        },
+        [b'!', rest @ ..] => Mention {
+            name: name_in(rest),
+            state: State::Unspecified,
+        },
+        _ => plain_mention(token, at),
     }
-    if b == b'!' {
-        return State::Unspecified;
-    }
-    let end = name_end(text, at);
-    if end == text.len() {
-        return State::Set;
-    }
-    State::Value(Span {
-        start: end + 1,
-        length: text.len() - (end + 1),
-    })
 }

@@ -3,7 +3,7 @@ use mathlib.Core.Path.{◌≡◌, refl, sym, ap, ◌∙◌}
 use mathlib.Core.Logic.{◌↔◌}
 use mathlib.Core.Bool.{Bool, true, false, cond, ◌||◌, false≢true}
 use mathlib.Core.List.{List, [], ◌∷◌}
-use mathlib.Core.Option.{Option, none, some}
+use Rattle.std.specs.Prelude.{Option, None, Some}
 use Prim.Native.Nat.{ℕ, zero, suc, pred, ◌+◌, ◌≤◌, ◌<◌}
 use native.Mathlib.Nat.{add-zero, zero-add, suc-add, add_assoc}
 use native.Mathlib.Numerals.{add-one, one-add}
@@ -19,32 +19,31 @@ use Rattle.classes.proofs.ClassLaws.{class_size_lem}
 use Rattle.bytestrings.proofs.SliceLaws.{from, from-drop, length_from, get_or-from}
 use Rattle.patterns.proofs.ReadLaws.{Sized, by_cases, item_sized}
 use Rattle.patterns.specs.Patterns.{Item, literal, any_byte, First, broken, item, stars, read_run, read_escaped, read_bracket, read_item, and_item, items_after, items_from, items}
-use Rattle.brokenplaces.specs.BrokenPlaces.{one_place_on, broken_after, broken_from, broken_at, reading_of}
+use Rattle.brokenplaces.specs.BrokenPlaces.{one_place_on, broken_after, broken_from, broken_at}
 use Rattle.patterns.specs.Sharing.{Matches}
 use Rattle.brokenplaces.specs.inner.ItemSizes.{may_break, size_of, first_size}
 use Rattle.patterns.specs.declared.Mode.{Mode}
-use Rattle.brokenplaces.specs.declared.Reading.TheVariants.{Unbroken, Broken}
 
 -- The place and the items are of one reading.
 
 -- items were read and there is no place, or the other way round
 abbrev Alike : Option (List Item) → Option ℕ → Type 0
-Alike none none = ⊥
-Alike none (some n) = Unit {0}
-Alike (some its) none = Unit {0}
-Alike (some its) (some n) = ⊥
+Alike None None = ⊥
+Alike None (Some n) = Unit {0}
+Alike (Some its) None = Unit {0}
+Alike (Some its) (Some n) = ⊥
 
 alike_later : (o : Option (List Item)) (b : Option ℕ) → Alike o b → Alike o (one_place_on b)
-alike_later none none h = h
-alike_later none (some n) h = tt
-alike_later (some its) none h = tt
-alike_later (some its) (some n) h = h
+alike_later None None h = h
+alike_later None (Some n) h = tt
+alike_later (Some its) None h = tt
+alike_later (Some its) (Some n) h = h
 
 alike_item : (it : Item) (o : Option (List Item)) (b : Option ℕ) → Alike o b → Alike (and_item it o) (one_place_on b)
-alike_item it none none h = h
-alike_item it none (some n) h = tt
-alike_item it (some its) none h = tt
-alike_item it (some its) (some n) h = h
+alike_item it None None h = h
+alike_item it None (Some n) h = tt
+alike_item it (Some its) None h = tt
+alike_item it (Some its) (Some n) h = h
 
 alike : (p : List ℕ) (k : ℕ) (after : Bool) → Alike (items_from p k after) (broken_from p k after)
 unfolding items_from broken_from
@@ -58,81 +57,81 @@ alike (x ∷ p) zero after = go (read_item after x p) (λ n. alike p n (eqb x (c
 alike (x ∷ p) (suc k) after = alike_later (items_from p k (eqb x (char "/"))) (broken_from p k (eqb x (char "/"))) (alike p k (eqb x (char "/")))
 
 -- a pattern is broken exactly where there is a place
-pub broken-place : (p : List ℕ) → (items p ≡ none) ↔ ((place : ℕ) × (broken_at p ≡ some place))
+pub broken-place : (p : List ℕ) → (items p ≡ None) ↔ ((place : ℕ) × (broken_at p ≡ Some place))
 broken-place p = go (items p) (broken_at p) refl refl (alike p 0 true)
   where
-    go : (o : Option (List Item)) (b : Option ℕ) → items p ≡ o → broken_at p ≡ b → Alike o b → (items p ≡ none) ↔ ((place : ℕ) × (broken_at p ≡ some place))
-    go none none e f h = absurd h
-    go none (some n) e f h = (λ q. (n, f), λ q. e)
-    go (some its) none e f h = (λ q. let z : ◌≡◌ {A = ℕ} 0 1 = cc in absurd (omega arith), λ q. let z : ◌≡◌ {A = ℕ} 0 1 = cc in absurd (omega arith))
-    go (some its) (some n) e f h = absurd h
+    go : (o : Option (List Item)) (b : Option ℕ) → items p ≡ o → broken_at p ≡ b → Alike o b → (items p ≡ None) ↔ ((place : ℕ) × (broken_at p ≡ Some place))
+    go None None e f h = absurd h
+    go None (Some n) e f h = (λ q. (n, f), λ q. e)
+    go (Some its) None e f h = (λ q. absurd cc, λ q. absurd cc)
+    go (Some its) (Some n) e f h = absurd h
 
 -- and read into items exactly where there is none
-pub unbroken_items : (p : List ℕ) → (broken_at p ≡ none) ↔ ((its : List Item) × (items p ≡ some its))
+pub unbroken_items : (p : List ℕ) → (broken_at p ≡ None) ↔ ((its : List Item) × (items p ≡ Some its))
 unbroken_items p = go (items p) (broken_at p) refl refl (alike p 0 true)
   where
-    go : (o : Option (List Item)) (b : Option ℕ) → items p ≡ o → broken_at p ≡ b → Alike o b → (broken_at p ≡ none) ↔ ((its : List Item) × (items p ≡ some its))
-    go none none e f h = absurd h
-    go none (some n) e f h = (λ q. let z : ◌≡◌ {A = ℕ} 0 1 = cc in absurd (omega arith), λ q. let z : ◌≡◌ {A = ℕ} 0 1 = cc in absurd (omega arith))
-    go (some its) none e f h = (λ q. (its, e), λ q. f)
-    go (some its) (some n) e f h = absurd h
+    go : (o : Option (List Item)) (b : Option ℕ) → items p ≡ o → broken_at p ≡ b → Alike o b → (broken_at p ≡ None) ↔ ((its : List Item) × (items p ≡ Some its))
+    go None None e f h = absurd h
+    go None (Some n) e f h = (λ q. absurd cc, λ q. absurd cc)
+    go (Some its) None e f h = (λ q. (its, e), λ q. f)
+    go (Some its) (Some n) e f h = absurd h
 
 -- the item that would begin a pattern is broken
 abbrev pub BrokenHere : List ℕ → Type 0
 BrokenHere [] = ⊥
 BrokenHere (x ∷ p) = (after : Bool) × (read_item after x p ≡ broken)
 
-later_some : (o : Option ℕ) (n : ℕ) → one_place_on o ≡ some n → (k : ℕ) × (o ≡ some k) × (n ≡ suc k)
-later_some none n e = let z : ◌≡◌ {A = ℕ} 0 1 = cc in absurd (omega arith)
-later_some (some k) n e = let q : n ≡ suc k = cc in (k, refl, q)
+later_some : (o : Option ℕ) (n : ℕ) → one_place_on o ≡ Some n → (k : ℕ) × (o ≡ Some k) × (n ≡ suc k)
+later_some None n e = absurd cc
+later_some (Some k) n e = let q : n ≡ suc k = cc in (k, refl, q)
 
 -- from a place counted from one byte later
-one_later : (x : ℕ) (p : List ℕ) (o : Option ℕ) (n : ℕ) → one_place_on o ≡ some n → ((k : ℕ) → o ≡ some k → (k < length p) × BrokenHere (drop k p))
+one_later : (x : ℕ) (p : List ℕ) (o : Option ℕ) (n : ℕ) → one_place_on o ≡ Some n → ((k : ℕ) → o ≡ Some k → (k < length p) × BrokenHere (drop k p))
     → (n < length (x ∷ p)) × BrokenHere (drop n (x ∷ p))
 one_later x p o n e h = let s = later_some o n e in let r = h s.0 s.1 in rw s.2 (omega (arith, r.0), r.1)
 
-place-from : (p : List ℕ) (k : ℕ) (after : Bool) (n : ℕ) → broken_from p k after ≡ some n → (n < length p) × BrokenHere (drop n p)
+place-from : (p : List ℕ) (k : ℕ) (after : Bool) (n : ℕ) → broken_from p k after ≡ Some n → (n < length p) × BrokenHere (drop n p)
 unfolding broken_from
-place-from [] k after n e = let z : ◌≡◌ {A = ℕ} 0 1 = cc in absurd (omega arith)
+place-from [] k after n e = absurd cc
 place-from (x ∷ p) zero after n e = go (read_item after x p) refl (λ k j. place-from p k (eqb x (char "/")) j) e
   where
-    go : (f : First) → read_item after x p ≡ f → ((k j : ℕ) → broken_from p k (eqb x (char "/")) ≡ some j → (j < length p) × BrokenHere (drop j p))
-        → broken_after f (λ n. broken_from p n (eqb x (char "/"))) ≡ some n → (n < length (x ∷ p)) × BrokenHere (drop n (x ∷ p))
+    go : (f : First) → read_item after x p ≡ f → ((k j : ℕ) → broken_from p k (eqb x (char "/")) ≡ Some j → (j < length p) × BrokenHere (drop j p))
+        → broken_after f (λ n. broken_from p n (eqb x (char "/"))) ≡ Some n → (n < length (x ∷ p)) × BrokenHere (drop n (x ∷ p))
     go broken q r e = let z : n ≡ 0 = cc in rw z (omega arith, (after, q))
     go (item it m) q r e = one_later x p (broken_from p (pred m) (eqb x (char "/"))) n e (r (pred m))
 place-from (x ∷ p) (suc k) after n e = one_later x p (broken_from p k (eqb x (char "/"))) n e (place-from p k (eqb x (char "/")))
 
 -- the place is one of the pattern's, and the item that begins there is broken
-pub place_begins : (p : List ℕ) (place : ℕ) → broken_at p ≡ some place → (place < length p) × BrokenHere (drop place p)
+pub place_begins : (p : List ℕ) (place : ℕ) → broken_at p ≡ Some place → (place < length p) × BrokenHere (drop place p)
 place_begins p place e = place-from p 0 true place e
 
 -- "A broken pattern matches nothing."
-pub broken_unmatched : (m : Mode) (p t : List ℕ) (place : ℕ) → broken_at p ≡ some place → Matches m p t → ⊥
+pub broken_unmatched : (m : Mode) (p t : List ℕ) (place : ℕ) → broken_at p ≡ Some place → Matches m p t → ⊥
 unfolding Matches
-broken_unmatched m p t place e w = let n = (broken-place p).1 (place, e) in let z : ◌≡◌ {A = ℕ} 0 1 = cc in absurd (omega arith)
+broken_unmatched m p t place e w = let n = (broken-place p).1 (place, e) in absurd cc
 
 -- Reading on from a place.
 
 -- a place counted from n bytes before
 abbrev later_by : ℕ → Option ℕ → Option ℕ
-later_by n none = none
-later_by n (some place) = some (n + place)
+later_by n None = None
+later_by n (Some place) = Some (n + place)
 
 later_zero : (o : Option ℕ) → o ≡ later_by 0 o
-later_zero none = refl
-later_zero (some n) = rw (zero-add n) refl
+later_zero None = refl
+later_zero (Some n) = rw (zero-add n) refl
 
 later_one : (o : Option ℕ) → one_place_on o ≡ later_by 1 o
-later_one none = refl
-later_one (some n) = rw (one-add n) refl
+later_one None = refl
+later_one (Some n) = rw (one-add n) refl
 
 later_suc : (n : ℕ) (o : Option ℕ) → one_place_on (later_by n o) ≡ later_by (suc n) o
-later_suc n none = refl
-later_suc n (some k) = rw (suc-add n k) refl
+later_suc n None = refl
+later_suc n (Some k) = rw (suc-add n k) refl
 
 later_more : (i n : ℕ) (o : Option ℕ) → later_by i (later_by n o) ≡ later_by (i + n) o
-later_more i n none = refl
-later_more i n (some k) = rw (add_assoc i n k) refl
+later_more i n None = refl
+later_more i n (Some k) = rw (add_assoc i n k) refl
 
 -- what stands before an item decides how far a run reaches, and not how many bytes the item has nor whether it is broken
 first_after : (a b : Bool) (x : ℕ) (p : List ℕ) (rest : ℕ → Option ℕ) → broken_after (read_item a x p) rest ≡ broken_after (read_item b x p) rest
@@ -162,7 +161,7 @@ place-drop (x ∷ p) (suc k) after = ap one_place_on (place-drop p k (eqb x (cha
 
 -- the first item is broken, or its bytes are passed
 abbrev FirstPassed : List ℕ → First → Type 0
-FirstPassed p broken = broken_from p 0 true ≡ some 0
+FirstPassed p broken = broken_from p 0 true ≡ Some 0
 FirstPassed p (item it n) = (1 ≤ n) × (n ≤ length p) × (broken_from p 0 true ≡ later_by n (broken_from (drop n p) 0 true))
 
 item-passed : (x : ℕ) (p : List ℕ) → FirstPassed (x ∷ p) (read_item false x p)
@@ -216,19 +215,19 @@ module _ (x : ℕ) (p : List ℕ) where
 
 -- How many bytes an escape and a class are written with, by the tests that the code makes.
 
-pub escape_open : (p : List ℕ) → 0 < length p → get_or p 0 0 ≡ char "\\" → length p < 2 → 0 ≡ first_size p
+pub escape_open : (p : List ℕ) → 0 < length p → get_or p 0 0 ≡ char "\\" → length p < 2 → None ≡ first_size p
 unfolding first_size size_of read_item
 escape_open [] l e h = refl
 escape_open (x ∷ []) l e h = rw (eq-eqb x (char "\\") e) refl
 escape_open (x ∷ y ∷ p) l e h = absurd (omega arith)
 
-pub escape_size : (p : List ℕ) → get_or p 0 0 ≡ char "\\" → 2 ≤ length p → 2 ≡ first_size p
+pub escape_size : (p : List ℕ) → get_or p 0 0 ≡ char "\\" → 2 ≤ length p → Some 2 ≡ first_size p
 unfolding first_size size_of read_item
 escape_size [] e h = absurd (omega arith)
 escape_size (x ∷ []) e h = absurd (omega arith)
 escape_size (x ∷ y ∷ p) e h = rw (eq-eqb x (char "\\") e) refl
 
-module _ (p : List ℕ) (l : 0 < length p) (e : may_break (get_or p 0 0) ≡ true) (d : get_or p 0 0 ≡ char "\\" → ⊥) (n : ℕ) (q : n ≡ class_size (read_class (from 1 p))) where
+module _ (p : List ℕ) (l : 0 < length p) (e : may_break (get_or p 0 0) ≡ true) (d : get_or p 0 0 ≡ char "\\" → ⊥) where
   class_first : first_size p ≡ size_of (read_bracket (read_class (from 1 p)))
   unfolding first_size may_break read_item
   class_first = go p l e d
@@ -238,30 +237,31 @@ module _ (p : List ℕ) (l : 0 < length p) (e : may_break (get_or p 0 0) ≡ tru
       go [] l e d = absurd (omega arith)
       go (x ∷ p) l e d = let b : eqb x (char "[") ≡ true = rw (ne_eqb x (char "\\") d) at e in rw (ne_eqb x (char "\\") d, b, eqb-true x (char "[") b, from-drop 1 (x ∷ p)) refl
 
-  pub class_open : n ≡ 0 → 0 ≡ first_size p
+  pub class_open : None ≡ class_size (read_class (from 1 p)) → None ≡ first_size p
   unfolding size_of read_bracket class_size
-  class_open z = go (read_class (from 1 p)) refl (sym z ∙ q) ∙ sym class_first
+  class_open q = go (read_class (from 1 p)) q ∙ sym class_first
     where
-      go : (o : Option Class) → read_class (from 1 p) ≡ o → 0 ≡ class_size o → 0 ≡ size_of (read_bracket o)
-      go none k h = refl
-      go (some c) k h = absurd (omega (arith, (class_size_lem (from 1 p) c k).0))
+      go : (o : Option Class) → None ≡ class_size o → None ≡ size_of (read_bracket o)
+      go None h = refl
+      go (Some c) h = absurd cc
 
-  pub class_whole : (n ≡ 0 → ⊥) → n + 1 ≡ first_size p
-  unfolding size_of read_bracket class_size
-  class_whole z = go (read_class (from 1 p)) q ∙ sym class_first
-    where
-      go : (o : Option Class) → n ≡ class_size o → n + 1 ≡ size_of (read_bracket o)
-      go none h = absurd (z h)
-      go (some c) h = rw (h, add-one c.size) refl
+  module _ (n : ℕ) (q : Some n ≡ class_size (read_class (from 1 p))) where
+    pub class_whole : Some (n + 1) ≡ first_size p
+    unfolding size_of read_bracket class_size
+    class_whole = go (read_class (from 1 p)) q ∙ sym class_first
+      where
+        go : (o : Option Class) → Some n ≡ class_size o → Some (n + 1) ≡ size_of (read_bracket o)
+        go None h = absurd cc
+        go (Some c) h = let m : n ≡ c.size = cc in rw (m, add-one c.size) refl
 
-  -- so that the sum fits
-  pub class_within : n ≤ length p
-  unfolding class_size
-  class_within = go (read_class (from 1 p)) refl q
-    where
-      go : (o : Option Class) → read_class (from 1 p) ≡ o → n ≡ class_size o → n ≤ length p
-      go none k h = omega arith
-      go (some c) k h = let s = class_size_lem (from 1 p) c k in omega (arith, s.1, length_from 1 p)
+    -- so that the sum fits
+    pub class_within : n ≤ length p
+    unfolding class_size
+    class_within = go (read_class (from 1 p)) refl q
+      where
+        go : (o : Option Class) → read_class (from 1 p) ≡ o → Some n ≡ class_size o → n ≤ length p
+        go None k h = absurd cc
+        go (Some c) k h = let m : n ≡ c.size = cc in let s = class_size_lem (from 1 p) c k in omega (arith, s.1, length_from 1 p)
 
 -- The code's loop: the place from the i-th byte on.
 
@@ -273,9 +273,9 @@ unfolding Left
 left_all p = later_zero (broken_at p)
 
 -- where no byte is left
-pub left_none : (p : List ℕ) (i : ℕ) → length p ≤ i → Left p i → Unbroken ≡ reading_of (broken_at p)
-unfolding Left broken_from reading_of
-left_none p i h s = sym (ap reading_of (s ∙ ap (λ (l : List ℕ). later_by i (broken_from l 0 true)) (drop_of_length-le p h)))
+pub left_none : (p : List ℕ) (i : ℕ) → length p ≤ i → Left p i → None ≡ broken_at p
+unfolding Left broken_from
+left_none p i h s = sym (s ∙ ap (λ (l : List ℕ). later_by i (broken_from l 0 true)) (drop_of_length-le p h))
 
 -- the byte here begins the part that is read
 pub may_break_from : (p : List ℕ) (i : ℕ) → i < length p → (b : Bool) → b ≡ may_break (get_or p i 0) → b ≡ true → (0 < length (from i p)) × (may_break (get_or (from i p) 0 0) ≡ true)
@@ -293,34 +293,23 @@ module _ (p : List ℕ) (i : ℕ) (h : i < length p) (s : Left p i) where
   first : FirstPassed (drop i p) (read_item false (get_or p i 0) (drop (suc i) p))
   first = rw (drop-cons p i 0 h) (item-passed (get_or p i 0) (drop (suc i) p))
 
-  module _ (n : ℕ) (e : n ≡ first_size (from i p)) where
-    size : n ≡ size_of (read_item false (get_or p i 0) (drop (suc i) p))
+  module _ (r : Option ℕ) (e : r ≡ first_size (from i p)) where
+    size : r ≡ size_of (read_item false (get_or p i 0) (drop (suc i) p))
     unfolding first_size
     size = e ∙ ap first_size (from-drop i p ∙ drop-cons p i 0 h)
 
-    pub left_broken : n ≡ 0 → Broken i ≡ reading_of (broken_at p)
-    unfolding Left reading_of size_of
+    pub left_broken : r ≡ None → Some i ≡ broken_at p
+    unfolding Left size_of
     left_broken z = go (read_item false (get_or p i 0) (drop (suc i) p)) first (sym z ∙ size)
       where
-        go : (f : First) → FirstPassed (drop i p) f → 0 ≡ size_of f → Broken i ≡ reading_of (broken_at p)
-        go broken k q = sym (ap reading_of (s ∙ ap (later_by i) k ∙ ap some (add-zero i)))
-        go (item it m) k q = absurd (omega (arith, k.0))
+        go : (f : First) → FirstPassed (drop i p) f → None ≡ size_of f → Some i ≡ broken_at p
+        go broken k q = sym (s ∙ ap (later_by i) k ∙ ap Some (add-zero i))
+        go (item it m) k q = absurd cc
 
-    pub left_item : (n ≡ 0 → ⊥) → (i + n ≤ length p) × Left p (i + n)
+    pub left_item : (n : ℕ) → r ≡ Some n → (1 ≤ n) × (i + n ≤ length p) × Left p (i + n)
     unfolding size_of
-    left_item d = go (read_item false (get_or p i 0) (drop (suc i) p)) first size
+    left_item n z = go (read_item false (get_or p i 0) (drop (suc i) p)) first (sym z ∙ size)
       where
-        go : (f : First) → FirstPassed (drop i p) f → n ≡ size_of f → (i + n ≤ length p) × Left p (i + n)
-        go broken k q = absurd (d q)
-        go (item it m) k q = rw q (let l = length-drop i p in omega (arith, k.1), more m k.2)
-
--- what the reading found
-pub read_broken : (o : Option ℕ) (n : ℕ) → reading_of o ≡ Broken n → o ≡ some n
-unfolding reading_of
-read_broken none n e = let z : ◌≡◌ {A = ℕ} 0 1 = cc in absurd (omega arith)
-read_broken (some k) n e = let q : k ≡ n = cc in ap some q
-
-pub read_unbroken : (o : Option ℕ) → reading_of o ≡ Unbroken → o ≡ none
-unfolding reading_of
-read_unbroken none e = refl
-read_unbroken (some k) e = let z : ◌≡◌ {A = ℕ} 0 1 = cc in absurd (omega arith)
+        go : (f : First) → FirstPassed (drop i p) f → Some n ≡ size_of f → (1 ≤ n) × (i + n ≤ length p) × Left p (i + n)
+        go broken k q = absurd cc
+        go (item it m) k q = let g : n ≡ m = cc in rw g (k.0, let l = length-drop i p in omega (arith, k.1), more m k.2)

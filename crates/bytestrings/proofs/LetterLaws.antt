@@ -4,7 +4,7 @@ use mathlib.Core.Bool.{Bool, true, false, cond, ◌&&◌, ◌||◌, false≢true
 use Prim.Native.Nat.{ℕ}
 use native.Mathlib.Omega.{arith}
 use lib.Dec.{eqb, leb}
-use borrow.Author.Tests.{leb-true, eqb-true, eq-eqb, ne_eqb}
+use borrow.Author.Tests.{leb-true, eqb-true, ne_eqb}
 use Rattle.bytestrings.specs.Text.{char}
 use Rattle.bytestrings.specs.Letters.{lower, upper, folded}
 
@@ -38,16 +38,3 @@ folded_same fold c x y hx nx hy = ne_eqb y (char "/") (λ e. false≢true (sym n
   where
     other : folded fold (λ z. eqb z c) (char "/") ≡ true → folded fold (λ z. eqb z (char "/")) x ≡ true
     other h = subst (λ (k : ℕ). folded fold (λ z. eqb z k) x ≡ true) (slash_only fold c h) hx
-
--- a literal, by the two forms of the byte
-pub same_folded : (fold : Bool) (c x l : ℕ) → fold ≡ true → l ≡ lower x → l ≡ c → eqb l c ≡ folded fold (λ y. eqb y c) x
-unfolding folded
-same_folded fold c x l f e q = rw (f, ← e, eq-eqb l c q)
-
-pub same_upper : (fold : Bool) (c x l u : ℕ) → fold ≡ true → l ≡ lower x → (l ≡ c → ⊥) → u ≡ upper x → eqb u c ≡ folded fold (λ y. eqb y c) x
-unfolding folded
-same_upper fold c x l u f e q h = rw (f, ← e, ← h, ne_eqb l c q)
-
-pub same_plain : (fold : Bool) (c x : ℕ) → fold ≡ false → eqb x c ≡ folded fold (λ y. eqb y c) x
-unfolding folded
-same_plain fold c x f = rw f

@@ -6,4 +6,4 @@ pub mod ByteLaws
 pub mod UntilLaws
 pub mod SameLaws
 pub mod LetterLaws
-pub mod ByteInLaws
+pub mod AnyLaws

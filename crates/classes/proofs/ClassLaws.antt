@@ -2,7 +2,7 @@
 use mathlib.Core.Path.{◌≡◌, refl, sym, ap, ap₂, subst, ◌∙◌}
 use mathlib.Core.Bool.{Bool, true, false, cond, not, ◌||◌, beq, or_self}
 use mathlib.Core.List.{List, [], ◌∷◌}
-use mathlib.Core.Option.{Option, none, some}
+use Rattle.std.specs.Prelude.{Option, None, Some}
 use Prim.Native.Nat.{ℕ, suc, ◌+◌, ◌-◌, ◌≤◌}
 use native.Mathlib.Nat.{zero-add}
 use native.Mathlib.Numerals.{one-add}
@@ -16,21 +16,21 @@ use Rattle.classes.proofs.SizeLaws.{Ends, Ended, ends_more, members-ended}
 use Rattle.bytestrings.specs.Letters.{lower, upper, folded}
 use Rattle.classes.specs.Members.{Member, any_lists, class_accepts, Members, members, Class, class_of, not_sign, read_class, tested}
 use Rattle.classes.specs.inner.Scan.{scanned}
+use Rattle.classes.proofs.ScanLaws.{read}
 use Rattle.classes.specs.declared.class.Tested.{Tested}
-use Rattle.classes.specs.declared.class.Tested.TheVariants.{Bad, Read}
 
 -- a class that was read ends in a `]`
 abbrev Closed : List ℕ → Option Class → Type 0
-Closed q none = Unit {0}
-Closed q (some c) = Ends q c.size
+Closed q None = Unit {0}
+Closed q (Some c) = Ends q c.size
 
 plain_closed : (q : List ℕ) (o : Option Members) → Ended q o → Closed q (class_of false 0 o)
-plain_closed q none h = tt
-plain_closed q (some r) h = rw (zero-add r.size) h
+plain_closed q None h = tt
+plain_closed q (Some r) h = rw (zero-add r.size) h
 
 sign_closed : (x : ℕ) (q : List ℕ) (o : Option Members) → Ended q o → Closed (x ∷ q) (class_of true 1 o)
-sign_closed x q none h = tt
-sign_closed x q (some r) h = rw (one-add r.size) (ends_more x q r.size h)
+sign_closed x q None h = tt
+sign_closed x q (Some r) h = rw (one-add r.size) (ends_more x q r.size h)
 
 read_closed : (q : List ℕ) → Closed q (read_class q)
 unfolding read_class
@@ -42,7 +42,7 @@ read_closed (x ∷ q) = go (not_sign (x ∷ q))
     go false = plain_closed (x ∷ q) (members (x ∷ q) 0 true) (members-ended (x ∷ q) 0 true)
 
 -- a class is written with at least one byte after its `[`, with no more than there are, and ends in `]`
-pub class_size_lem : (q : List ℕ) (c : Class) → read_class q ≡ some c → (1 ≤ c.size) × (c.size ≤ length q) × (get_or q (c.size - 1) 0 ≡ char "]")
+pub class_size_lem : (q : List ℕ) (c : Class) → read_class q ≡ Some c → (1 ≤ c.size) × (c.size ≤ length q) × (get_or q (c.size - 1) 0 ≡ char "]")
 class_size_lem q c e = subst (Closed q) e (read_closed q)
 
 -- The sign for "not".
@@ -117,32 +117,33 @@ accepted_hit fold true true ms x e = ap not e
 accepted_hit fold true false ms x e = ap not e
 
 module _ (fold neg : Bool) (x k : ℕ) where
-  scanned_bad : (o : Option Members) → Bad ≡ scanned (form fold (lower x) x) (form fold (upper x) x) o → Bad ≡ tested fold x (class_of neg k o)
+  scanned_none : (o : Option Members) → None ≡ scanned (form fold (lower x) x) (form fold (upper x) x) o → None ≡ tested fold x (class_of neg k o)
   unfolding scanned tested
-  scanned_bad none e = refl
-  scanned_bad (some r) e = let z : ◌≡◌ {A = ℕ} 0 1 = cc in absurd (omega arith)
+  scanned_none None e = refl
+  scanned_none (Some r) e = absurd cc
 
-  scanned_read : (o : Option Members) (hit : Bool) (n : ℕ) → Read hit n ≡ scanned (form fold (lower x) x) (form fold (upper x) x) o
-      → Read (not (beq hit neg)) (k + n) ≡ tested fold x (class_of neg k o)
+  scanned_some : (o : Option Members) (t : Tested) → Some t ≡ scanned (form fold (lower x) x) (form fold (upper x) x) o
+      → read (not (beq t.accepts neg)) (k + t.size) ≡ tested fold x (class_of neg k o)
   unfolding scanned tested
-  scanned_read none hit n e = let z : ◌≡◌ {A = ℕ} 0 1 = cc in absurd (omega arith)
-  scanned_read (some r) hit n e =
-      let h : hit ≡ any_lists r.list (form fold (lower x) x) || any_lists r.list (form fold (upper x) x) = cc in
-      let m : n ≡ r.size = cc in
-      ap₂ Read (accepted_hit fold neg hit r.list x (h ∙ folded_forms fold r.list x)) (ap (λ (j : ℕ). k + j) m)
+  scanned_some None t e = absurd cc
+  scanned_some (Some r) t e =
+      let h : t ≡ record { accepts = any_lists r.list (form fold (lower x) x) || any_lists r.list (form fold (upper x) x); size = r.size } = cc in
+      ap₂ read (accepted_hit fold neg t.accepts r.list x (ap (λ (u : Tested). u.accepts) h ∙ folded_forms fold r.list x)) (ap (λ (u : Tested). k + u.size) h)
 
-scanned-size : (q : List ℕ) (y z : ℕ) (o : Option Members) (hit : Bool) (n : ℕ) → Read hit n ≡ scanned y z o → Ended q o → n ≤ length q
+scanned-size : (q : List ℕ) (y z : ℕ) (o : Option Members) (t : Tested) → Some t ≡ scanned y z o → Ended q o → t.size ≤ length q
 unfolding scanned
-scanned-size q y z none hit n e h = let w : ◌≡◌ {A = ℕ} 0 1 = cc in absurd (omega arith)
-scanned-size q y z (some r) hit n e h = let m : n ≡ r.size = cc in omega arith
+scanned-size q y z None t e h = absurd cc
+scanned-size q y z (Some r) t e h =
+    let k : t ≡ record { accepts = any_lists r.list y || any_lists r.list z; size = r.size } = cc in
+    let m = ap (λ (u : Tested). u.size) k in omega arith
 
-module _ (q : List ℕ) (start low high : ℕ) (r : Tested) (at : start ≡ start_of q) (s : r ≡ scanned low high (members (from start q) 0 true)) where
+module _ (q : List ℕ) (start low high : ℕ) (r : Option Tested) (at : start ≡ start_of q) (s : r ≡ scanned low high (members (from start q) 0 true)) where
   scan : r ≡ scanned low high (members (drop start q) 0 true)
   scan = s ∙ ap (λ (p : List ℕ). scanned low high (members p 0 true)) (from-drop start q)
 
-  pub class_fits : (hit : Bool) (n : ℕ) → r ≡ Read hit n → start + n ≤ length q
-  class_fits hit n e =
-      let h = scanned-size (drop start q) low high (members (drop start q) 0 true) hit n (sym e ∙ scan) (members-ended (drop start q) 0 true) in
+  pub class_fits : (t : Tested) → r ≡ Some t → start + t.size ≤ length q
+  class_fits t e =
+      let h = scanned-size (drop start q) low high (members (drop start q) 0 true) t (sym e ∙ scan) (members-ended (drop start q) 0 true) in
       let l = start-within q start at in
       omega (arith, length-drop start q)
 
@@ -150,9 +151,9 @@ module _ (q : List ℕ) (start low high : ℕ) (r : Tested) (at : start ≡ star
     forms : r ≡ scanned (form fold (lower x) x) (form fold (upper x) x) (members (drop (start_of q) q) 0 true)
     forms = rw (← l, ← u, ← at) scan
 
-    pub class_bad : r ≡ Bad → Bad ≡ tested fold x (read_class q)
-    class_bad e = rw (read_start q) (scanned_bad fold (not_sign q) x (start_of q) (members (drop (start_of q) q) 0 true) (sym e ∙ forms))
+    pub class_none : r ≡ None → None ≡ tested fold x (read_class q)
+    class_none e = rw (read_start q) (scanned_none fold (not_sign q) x (start_of q) (members (drop (start_of q) q) 0 true) (sym e ∙ forms))
 
-    pub class_read : (neg hit : Bool) (n : ℕ) → neg ≡ not_sign q → r ≡ Read hit n → Read (not (beq hit neg)) (start + n) ≡ tested fold x (read_class q)
-    class_read neg hit n g e =
-        rw (read_start q, at, g) (scanned_read fold (not_sign q) x (start_of q) (members (drop (start_of q) q) 0 true) hit n (sym e ∙ forms))
+    pub class_some : (neg : Bool) (t : Tested) → neg ≡ not_sign q → r ≡ Some t → read (not (beq t.accepts neg)) (start + t.size) ≡ tested fold x (read_class q)
+    class_some neg t g e =
+        rw (read_start q, at, g) (scanned_some fold (not_sign q) x (start_of q) (members (drop (start_of q) q) 0 true) t (sym e ∙ forms))

@@ -2,11 +2,12 @@
 use mathlib.Core.Path.{◌≡◌, refl, ap, ◌∙◌}
 use mathlib.Core.Bool.{Bool, true, false, cond, not, ◌&&◌, and-false}
 use mathlib.Core.List.{List, [], ◌∷◌}
+use Rattle.std.specs.Prelude.{None, Some}
 use Prim.Native.Nat.{ℕ, ◌+◌, ◌-◌, ◌<◌, ◌≤◌}
 use native.Mathlib.Omega.{arith}
 use lib.Dec.{eqb}
 use lib.ListN.{length, get_or, take}
-use borrow.Author.Tests.{eq-eqb, ne_eqb, le-leb, lt-leb, lt-ltb, le-ltb}
+use borrow.Author.Tests.{eq-eqb, ne_eqb, le-leb, lt-leb}
 use Rattle.bytestrings.proofs.SliceLaws.{from, from-drop}
 use Rattle.bytestrings.specs.Text.{char}
 use Rattle.classnames.specs.Names.{which_name}
@@ -73,14 +74,14 @@ module _ (q : List ℕ) (n : ℕ) (e : n ≡ until_close q) where
   unfolding name_at
   name-plain h z d = rw (← e, lt-leb _ _ h, ne_eqb n 0 z, ne_eqb _ (char ":") d) refl
 
-  module _ (k : ℕ) (h : n < length q) (z : n ≡ 0 → ⊥) (colon : get_or q (n - 1) 0 ≡ char ":") (f : k ≡ which_name (take (n - 1) q)) where
-    pub name_unknown : 12 ≤ k → broken ≡ name_at q
+  module _ (h : n < length q) (z : n ≡ 0 → ⊥) (colon : get_or q (n - 1) 0 ≡ char ":") where
+    pub name_unknown : None ≡ which_name (take (n - 1) q) → broken ≡ name_at q
     unfolding name_at
-    name_unknown u = rw (← e, lt-leb _ _ h, ne_eqb n 0 z, eq-eqb _ (char ":") colon, ← f, le-ltb _ _ u) refl
+    name_unknown f = rw (← e, lt-leb _ _ h, ne_eqb n 0 z, eq-eqb _ (char ":") colon, ← f) refl
 
-    pub name-found : k < 12 → member (name k) (n + 3) ≡ name_at q
+    pub name-found : (k : ℕ) → Some k ≡ which_name (take (n - 1) q) → member (name k) (n + 3) ≡ name_at q
     unfolding name_at
-    name-found u = rw (← e, lt-leb _ _ h, ne_eqb n 0 z, eq-eqb _ (char ":") colon, ← f, lt-ltb _ _ u) refl
+    name-found k f = rw (← e, lt-leb _ _ h, ne_eqb n 0 z, eq-eqb _ (char ":") colon, ← f) refl
 
 -- After `[`.
 

@@ -2,7 +2,7 @@
 use mathlib.Core.Path.{◌≡◌, refl, sym, ap, ap₂, subst, ◌∙◌}
 use mathlib.Core.Bool.{Bool, true, false, ◌||◌, or-true, or-false}
 use mathlib.Core.List.{List, [], ◌∷◌}
-use mathlib.Core.Option.{Option, none, some}
+use Rattle.std.specs.Prelude.{Option, None, Some}
 use Prim.Native.Nat.{ℕ, zero, suc, ◌+◌, ◌-◌, ◌≤◌, ◌<◌}
 use native.Mathlib.Nat.{zero-add, suc-add, add_assoc}
 use native.Mathlib.Omega.{arith}
@@ -15,20 +15,19 @@ use Rattle.classes.proofs.SizeLaws.{Within, next_within}
 use Rattle.classes.specs.Members.{Member, lists, any_lists, Step, close, broken, member, next_member, Members, longer, and_member, members_after, members}
 use Rattle.classes.specs.inner.Scan.{scanned, PlainTo}
 use Rattle.classes.specs.declared.class.Tested.{Tested}
-use Rattle.classes.specs.declared.class.Tested.TheVariants.{Bad, Read}
 
 -- n bytes more, before members
 abbrev pub longer_by : ℕ → Option Members → Option Members
-longer_by n none = none
-longer_by n (some r) = some (record { list = r.list; size = n + r.size })
+longer_by n None = None
+longer_by n (Some r) = Some (record { list = r.list; size = n + r.size })
 
 pub longer_zero : (o : Option Members) → o ≡ longer_by 0 o
-longer_zero none = refl
-longer_zero (some r) = rw (zero-add r.size) refl
+longer_zero None = refl
+longer_zero (Some r) = rw (zero-add r.size) refl
 
 longer_suc : (n : ℕ) (o : Option Members) → longer (longer_by n o) ≡ longer_by (suc n) o
-longer_suc n none = refl
-longer_suc n (some r) = rw (suc-add n r.size) refl
+longer_suc n None = refl
+longer_suc n (Some r) = rw (suc-add n r.size) refl
 
 -- members after k bytes are the members of what follows them
 members-drop : (q : List ℕ) (k : ℕ) (first : Bool) → members q k first ≡ longer_by k (members (drop k q) 0 first)
@@ -39,13 +38,13 @@ members-drop (x ∷ q) (suc k) first = ap longer (members-drop q k first) ∙ lo
 
 -- the member b of n bytes, before members
 unfoldable pub with_member : Member → ℕ → Option Members → Option Members
-with_member b n none = none
-with_member b n (some r) = some (record { list = b ∷ r.list; size = n + r.size })
+with_member b n None = None
+with_member b n (Some r) = Some (record { list = b ∷ r.list; size = n + r.size })
 
 with_longer : (b : Member) (n : ℕ) (o : Option Members) → and_member b (longer_by n o) ≡ with_member b (suc n) o
 unfolding with_member
-with_longer b n none = refl
-with_longer b n (some r) = rw (suc-add n r.size) refl
+with_longer b n None = refl
+with_longer b n (Some r) = rw (suc-add n r.size) refl
 
 pub members-member : (q : List ℕ) (first : Bool) (b : Member) (n : ℕ) → next_member first q ≡ member b n → 1 ≤ n → members q 0 first ≡ with_member b n (members (drop n q) 0 false)
 unfolding members next_member
@@ -53,20 +52,24 @@ members-member [] first b n e h = let z : ◌≡◌ {A = ℕ} 0 1 = cc in absurd
 members-member (x ∷ q) first b zero e h = absurd (omega arith)
 members-member (x ∷ q) first b (suc n) e h = ap (λ (s : Step). members_after s (λ n. members q n false)) e ∙ ap (and_member b) (members-drop q n false) ∙ with_longer b n (members (drop n q) 0 false)
 
-members-close : (q : List ℕ) (first : Bool) → next_member first q ≡ close → members q 0 first ≡ some (record { list = []; size = 1 })
+members-close : (q : List ℕ) (first : Bool) → next_member first q ≡ close → members q 0 first ≡ Some (record { list = []; size = 1 })
 unfolding members next_member
 members-close [] first e = let z : ◌≡◌ {A = ℕ} 0 1 = cc in absurd (omega arith)
 members-close (x ∷ q) first e = ap (λ (s : Step). members_after s (λ n. members q n false)) e
 
-pub members-broken : (q : List ℕ) (first : Bool) → next_member first q ≡ broken → members q 0 first ≡ none
+pub members-broken : (q : List ℕ) (first : Bool) → next_member first q ≡ broken → members q 0 first ≡ None
 unfolding members
 members-broken [] first e = refl
 members-broken (x ∷ q) first e = ap (λ (s : Step). members_after s (λ n. members q n false)) e
 
+-- an answer of the test
+abbrev pub read : Bool → ℕ → Option Tested
+read hit n = Some (record { accepts = hit; size = n })
+
 -- what was found in the first i bytes, joined with what the rest gives
-abbrev pub joined : Bool → ℕ → Tested → Tested
-joined hit i Bad = Bad
-joined hit i (Read h n) = Read (hit || h) (i + n)
+abbrev pub joined : Bool → ℕ → Option Tested → Option Tested
+joined hit i None = None
+joined hit i (Some t) = read (hit || t.accepts) (i + t.size)
 
 or_swap : (h a b c d : Bool) → h || ((a || c) || (b || d)) ≡ (h || (a || b)) || (c || d)
 or_swap true a b c d = refl
@@ -77,9 +80,9 @@ or_swap false false false c d = refl
 joined_with : (hit : Bool) (i x y : ℕ) (b : Member) (n : ℕ) (o : Option Members)
     → joined hit i (scanned x y (with_member b n o)) ≡ joined (hit || (lists b x || lists b y)) (i + n) (scanned x y o)
 unfolding scanned with_member
-joined_with hit i x y b n none = refl
-joined_with hit i x y b n (some r) =
-    ap₂ Read (or_swap hit (lists b x) (lists b y) (any_lists r.list x) (any_lists r.list y)) (sym (add_assoc i n r.size))
+joined_with hit i x y b n None = refl
+joined_with hit i x y b n (Some r) =
+    ap₂ read (or_swap hit (lists b x) (lists b y) (any_lists r.list x) (any_lists r.list y)) (sym (add_assoc i n r.size))
 
 -- the members from the i-th byte on are left
 unfoldable pub Left : List ℕ → ℕ → ℕ → ℕ → Bool → Type 0
@@ -89,11 +92,11 @@ pub left_all : (q : List ℕ) (x y : ℕ) → Left q x y 0 false
 unfolding Left
 left_all q x y = go (scanned x y (members q 0 true))
   where
-    go : (r : Tested) → r ≡ joined false 0 r
-    go Bad = refl
-    go (Read h n) = rw (zero-add n) refl
+    go : (r : Option Tested) → r ≡ joined false 0 r
+    go None = refl
+    go (Some t) = rw (zero-add t.size) refl
 
-pub left_none : (q : List ℕ) (x y i : ℕ) (hit : Bool) → length q ≤ i → Left q x y i hit → Bad ≡ scanned x y (members q 0 true)
+pub left_none : (q : List ℕ) (x y i : ℕ) (hit : Bool) → length q ≤ i → Left q x y i hit → None ≡ scanned x y (members q 0 true)
 unfolding members scanned Left
 left_none q x y i hit h s = sym (s ∙ (rw (drop_of_length-le q h) refl))
 
@@ -111,11 +114,11 @@ module _ (hit : Bool) (b : Member) (x y : ℕ) where
   found_now h more e = rw h e
 
 module _ (q : List ℕ) (x y i : ℕ) (hit : Bool) (r : Step) (e : r ≡ next_member (eqb i 0) (drop i q)) (s : Left q x y i hit) where
-  pub left_close : r ≡ close → Read hit (i + 1) ≡ scanned x y (members q 0 true)
+  pub left_close : r ≡ close → read hit (i + 1) ≡ scanned x y (members q 0 true)
   unfolding scanned Left
-  left_close c = sym (s ∙ ap (λ (o : Option Members). joined hit i (scanned x y o)) (members-close (drop i q) (eqb i 0) (sym e ∙ c)) ∙ ap (λ (h : Bool). Read h (i + 1)) (or-false hit))
+  left_close c = sym (s ∙ ap (λ (o : Option Members). joined hit i (scanned x y o)) (members-close (drop i q) (eqb i 0) (sym e ∙ c)) ∙ ap (λ (h : Bool). read h (i + 1)) (or-false hit))
 
-  pub left_broken : r ≡ broken → Bad ≡ scanned x y (members q 0 true)
+  pub left_broken : r ≡ broken → None ≡ scanned x y (members q 0 true)
   unfolding scanned Left
   left_broken c = sym (s ∙ ap (λ (o : Option Members). joined hit i (scanned x y o)) (members-broken (drop i q) (eqb i 0) (sym e ∙ c)))
 

@@ -2,16 +2,16 @@
 use mathlib.Core.Path.{◌≡◌, refl}
 use mathlib.Core.Bool.{Bool, true, false, cond, not, ◌&&◌}
 use mathlib.Core.List.{List, [], ◌∷◌}
-use mathlib.Core.Option.{Option, none, some}
+use Rattle.std.proofs.lemmas.Bool.{and_parts}
+use Rattle.std.specs.Prelude.{Option, None, Some}
 use Prim.Native.Nat.{ℕ, zero, suc, ◌+◌, ◌-◌, ◌≤◌}
 use native.Mathlib.Omega.{arith}
-use lib.Dec.{eqb, leb, ltb}
+use lib.Dec.{eqb, leb}
 use lib.ListN.{length, get_or}
 use borrow.Author.Tests.{eqb-true, leb-false}
 use Rattle.bytestrings.specs.Text.{char}
-use Rattle.bytestrings.proofs.BoolLaws.{and_split}
 use Rattle.classnames.specs.Names.{which_name}
-use Rattle.classes.specs.Members.{Member, Step, close, broken, member, escaped_end, range_end, single, escaped_member, until_close, no_name, name_of, name_at, bracket_at}
+use Rattle.classes.specs.Members.{Member, Step, close, broken, member, escaped_end, range_end, single, escaped_member, until_close, no_name, name_of, name_step, name_at, bracket_at}
 use Rattle.classes.specs.Members.{next_member, Members, longer, and_member, members_after, members}
 
 -- what stands next in q: a member is written with at least one byte and at most those of q, and the closing `]` is the first byte
@@ -44,12 +44,16 @@ module _ (q : List ℕ) where
   escaped_within [] h = tt
   escaped_within (y ∷ p) h = single-within y 2 p (omega arith) (omega arith)
 
+  step_within : (n : ℕ) (o : Option ℕ) → 1 ≤ n → n ≤ length q → Within q (name_step n o)
+  step_within n None l h = tt
+  step_within n (Some k) l h = (l, h)
+
   name-within : (p : List ℕ) → length p + 2 ≤ length q → Within q (name_at p)
   unfolding name_at
   name-within p h =
       cond_within (leb (length p) (until_close p)) _ _ (λ e. tt)
       (λ e. let l = leb-false (length p) (until_close p) e in cond_within (no_name p) _ _ (λ f. omega arith)
-      (λ f. cond_within (ltb (which_name (name_of p)) 12) _ _ (λ g. omega arith) (λ g. tt)))
+      (λ f. step_within (until_close p + 3) (which_name (name_of p)) (omega arith) (omega arith)))
 
 bracket_within : (x : ℕ) (q : List ℕ) → Within (x ∷ q) (bracket_at q)
 unfolding bracket_at
@@ -61,7 +65,7 @@ pub next_within : (first : Bool) (q : List ℕ) → Within q (next_member first 
 unfolding next_member
 next_within first [] = tt
 next_within first (x ∷ q) =
-    cond_within (x ∷ q) (eqb x (char "]") && not first) _ _ (λ e. eqb-true x (char "]") (and_split _ _ e).0)
+    cond_within (x ∷ q) (eqb x (char "]") && not first) _ _ (λ e. eqb-true x (char "]") (and_parts _ _ e).0)
     (λ e. cond_within (x ∷ q) (eqb x (char "\\")) _ _ (λ f. escaped_within (x ∷ q) q (omega arith))
     (λ f. cond_within (x ∷ q) (eqb x (char "[")) _ _ (λ g. bracket_within x q) (λ g. single-within (x ∷ q) x 1 q (omega arith) (omega arith))))
 
@@ -78,16 +82,16 @@ ends_more x q (suc n) h =
 
 -- members that were read end in a `]`
 abbrev pub Ended : List ℕ → Option Members → Type 0
-Ended q none = Unit {0}
-Ended q (some r) = Ends q r.size
+Ended q None = Unit {0}
+Ended q (Some r) = Ends q r.size
 
 longer-ended : (x : ℕ) (q : List ℕ) (o : Option Members) → Ended q o → Ended (x ∷ q) (longer o)
-longer-ended x q none h = tt
-longer-ended x q (some r) h = ends_more x q r.size h
+longer-ended x q None h = tt
+longer-ended x q (Some r) h = ends_more x q r.size h
 
 and_ended : (x : ℕ) (q : List ℕ) (b : Member) (o : Option Members) → Ended q o → Ended (x ∷ q) (and_member b o)
-and_ended x q b none h = tt
-and_ended x q b (some r) h = ends_more x q r.size h
+and_ended x q b None h = tt
+and_ended x q b (Some r) h = ends_more x q r.size h
 
 after-ended : (x : ℕ) (q : List ℕ) (s : Step) (rest : ℕ → Option Members) → Within (x ∷ q) s → ((n : ℕ) → Ended q (rest n)) → Ended (x ∷ q) (members_after s rest)
 after-ended x q close rest e h = (omega arith, omega arith, e)

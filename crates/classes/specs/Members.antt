@@ -1,12 +1,10 @@
 -- Document 01, "Patterns": "`[`, then perhaps `!` or `^` for "not", then members up to `]`".
-use Rattle.std.specs.Prelude.{ℕ, zero, suc, pred, ◌+◌, ◌-◌, Bool, true, false, cond, not, ◌&&◌, ◌||◌, List, [], ◌∷◌, eqb, leb, ltb, length, get_or, take, drop}
-use Rattle.std.proofs.Math.Option.{Option, none, some}
+use Rattle.std.specs.Prelude.{ℕ, zero, suc, pred, ◌+◌, ◌-◌, Bool, true, false, cond, not, ◌&&◌, ◌||◌, List, [], ◌∷◌, eqb, leb, length, get_or, take, drop, Option, None, Some}
 use Rattle.bytestrings.specs.Text.{char}
 use Rattle.bytestrings.specs.Bytes.{length_until, in_range}
 use Rattle.bytestrings.specs.Letters.{folded}
 use Rattle.classnames.specs.Names.{named, which_name}
 use Rattle.classes.specs.declared.class.Tested.{Tested}
-use Rattle.classes.specs.declared.class.Tested.TheVariants.{Bad, Read}
 
 -- What each member lists.
 
@@ -77,14 +75,18 @@ no_name q = eqb (until_close q) 0 || not (eqb (get_or q (until_close q - 1) 0) (
 abbrev pub name_of : List ℕ → List ℕ
 name_of q = take (until_close q - 1) q
 
+-- the name at the k-th place, written with n bytes; none: "a name outside the twelve, the empty name too, is broken"
+abbrev pub name_step : ℕ → Option ℕ → Step
+name_step n None = broken
+name_step n (Some k) = member (name k) n
+
 -- "After `[:` look for the next `]`: none, the pattern is broken; .. the inner `[` is a plain member and reading goes on at the `:`;
--- a name outside the twelve, the empty name too, is broken". Three bytes more than stand before the `]`: `[:` and that `]`
+-- ..". A name's size is three bytes more than stand before the `]`: `[:` and that `]`
 unfoldable pub name_at : List ℕ → Step
 name_at q =
     cond (leb (length q) (until_close q)) broken
     (cond (no_name q) (member (byte (char "[")) 1)
-    (cond (ltb (which_name (name_of q)) 12) (member (name (which_name (name_of q))) (until_close q + 3))
-    broken))
+    (name_step (until_close q + 3) (which_name (name_of q))))
 
 -- after `[` among the members
 unfoldable pub bracket_at : List ℕ → Step
@@ -107,23 +109,23 @@ pub record Members : Type 0 where
 
 -- one byte more belongs to the member before
 abbrev pub longer : Option Members → Option Members
-longer none = none
-longer (some r) = some (record { list = r.list; size = suc r.size })
+longer None = None
+longer (Some r) = Some (record { list = r.list; size = suc r.size })
 
 -- one member more, whose first byte is counted here
 abbrev pub and_member : Member → Option Members → Option Members
-and_member m none = none
-and_member m (some r) = some (record { list = m ∷ r.list; size = suc r.size })
+and_member m None = None
+and_member m (Some r) = Some (record { list = m ∷ r.list; size = suc r.size })
 
 -- what stood next and then the members after its n bytes, of which the first byte is passed already
 abbrev pub members_after : Step → (ℕ → Option Members) → Option Members
-members_after close rest = some (record { list = []; size = 1 })
-members_after broken rest = none
+members_after close rest = Some (record { list = []; size = 1 })
+members_after broken rest = None
 members_after (member m n) rest = and_member m (rest (pred n))
 
 -- "members up to `]`", after the first k bytes, which belong to a member that was read; none: broken. `first`: no member was read yet
 unfoldable pub members : List ℕ → ℕ → Bool → Option Members
-members [] k first = none
+members [] k first = None
 members (x ∷ q) zero first = members_after (next_member first (x ∷ q)) (λ n. members q n false)
 members (x ∷ q) (suc k) first = longer (members q k first)
 
@@ -135,8 +137,8 @@ pub record Class : Type 0 where
 
 -- the class of n bytes before its members
 abbrev pub class_of : Bool → ℕ → Option Members → Option Class
-class_of neg n none = none
-class_of neg n (some r) = some (record { negated = neg; list = r.list; size = n + r.size })
+class_of neg n None = None
+class_of neg n (Some r) = Some (record { negated = neg; list = r.list; size = n + r.size })
 
 -- "perhaps `!` or `^` for "not""
 abbrev pub not_sign : List ℕ → Bool
@@ -147,7 +149,7 @@ not_sign (x ∷ q) = eqb x (char "!") || eqb x (char "^")
 unfoldable pub read_class : List ℕ → Option Class
 read_class q = cond (not_sign q) (class_of true 1 (members (drop 1 q) 0 true)) (class_of false 0 (members q 0 true))
 
--- what the code answers for the class that was read: broken, or whether it accepts the byte x, with its size
-unfoldable pub tested : Bool → ℕ → Option Class → Tested
-tested fold x none = Bad
-tested fold x (some c) = Read (class_accepts fold c.negated c.list x) c.size
+-- what the code answers for the class that was read: whether it accepts the byte x, with its size; none: broken
+unfoldable pub tested : Bool → ℕ → Option Class → Option Tested
+tested fold x None = None
+tested fold x (Some c) = Some (record { accepts = class_accepts fold c.negated c.list x; size = c.size })

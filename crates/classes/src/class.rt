@@ -7,32 +7,28 @@ use crate::members::{Next, next_member};
 use bytestrings::letters::{to_lower, to_upper};
 use classnames::name_has;
 
-// What the test of a byte against a class answers: the class is broken, or whether it accepts the byte, and the class's size after its `[`.
-#[derive(Drop)]
-pub enum Tested {
-    Bad,
-    Read(bool, usize),
+// What the test of a byte against a class that is not broken answers: whether it accepts the byte, and the class's size after its `[`.
+#[derive(Clone, Copy, PartialEq, Eq, Debug)]
+pub struct Tested {
+    pub accepts: bool,
+    pub size: usize,
 }
 
 // Whether q begins with the sign for "not".
 pub fn is_negated(q: &[u8]) -> bool
     ensures { result ≡ not_sign q.now }
 {
-    if q.len() == 0 {
-        return false;
-    }
-    let x = q[0];
-    x == b'!' || x == b'^'
+    matches!(q, [b'!' | b'^', ..])
 }
 
-// Whether the byte b is x or y.
+// Whether the byte b is x or y. This and the next two, one function over a test of one byte, would take a closure for `||` alone.
 fn byte_lists(b: u8, x: u8, y: u8) -> bool
     ensures { result ≡ lists (byte b) x || lists (byte b) y }
 {
     x == b || y == b
 }
 
-// Whether the range from a to b lists the byte x; written high to low it still lists a.
+// Whether the range from a to b lists the byte x; written high to low it still lists a. (`contains` of a range would leave `x == a` beside it.)
 fn range_has(a: u8, b: u8, x: u8) -> bool
     ensures { result ≡ lists (range a b) x }
 {
@@ -60,6 +56,7 @@ fn name_lists(k: usize, x: u8, y: u8) -> bool
 }
 
 // The next member at the i-th byte of q. A `[:` before the place `plain` is known to begin a plain member, with no search for the next `]`.
+// (`PlainTo` is said of each step's result anew, so no type can hold it.)
 fn next_at(q: &[u8], i: usize, plain: usize) -> Next
     requires { (i < length q.now) × PlainTo q.now (i + 2) (plain + 1) }
     ensures { (step_of result ≡ next_member (eqb i 0) (drop i q.now)) × PlainTo q.now (i + 2) (i + 2 + plain_places result) }
@@ -70,8 +67,9 @@ fn next_at(q: &[u8], i: usize, plain: usize) -> Next
     next_member(&q[i..], i == 0)
 }
 
-// Reads members to the closing `]`: whether one of them lists x or y.
-fn scan_members(q: &[u8], x: u8, y: u8) -> Tested
+// Reads members to the closing `]`: whether one of them lists x or y; none where they are broken. Each turn passes the bytes that it read,
+// and `plain` is a place in q, so it counts an index.
+fn scan_members(q: &[u8], x: u8, y: u8) -> Option<Tested>
     ensures { result ≡ scanned x y (members q.now 0 true) }
 {
     let mut i = 0;
@@ -80,10 +78,13 @@ fn scan_members(q: &[u8], x: u8, y: u8) -> Tested
     while i < q.len() {
         match next_at(q, i, plain) {
             Next::Close => {
-                return Tested::Read(hit, i + 1);
+                return Some(Tested {
+                    accepts: hit,
+                    size: i + 1,
+                });
             }
             Next::Broken => {
-                return Tested::Bad;
+                return None;
             }
             Next::Byte(b, n) => {
                 hit = hit || byte_lists(b, x, y);
@@ -104,19 +105,20 @@ fn scan_members(q: &[u8], x: u8, y: u8) -> Tested
             }
         }
     }
-    Tested::Bad
+    None
 }
 
-// The class after its `[`, tested on the byte x.
-pub fn test_class(q: &[u8], x: u8, fold: bool) -> Tested
+// The class after its `[`, tested on the byte x; none where it is broken.
+pub fn test_class(q: &[u8], x: u8, fold: bool) -> Option<Tested>
     ensures { result ≡ tested fold x (read_class q.now) }
 {
     let negated = is_negated(q);
     let from: usize = if negated { 1 } else { 0 };
     let low = if fold { to_lower(x) } else { x };
     let high = if fold { to_upper(x) } else { x };
-    match scan_members(&q[from..], low, high) {
-        Tested::Bad => Tested::Bad,
-        Tested::Read(hit, n) => Tested::Read(hit != negated, from + n),
-    }
+    let scanned = scan_members(&q[from..], low, high)?;
+    Some(Tested {
+        accepts: scanned.accepts != negated,
+        size: from + scanned.size,
+    })
 }

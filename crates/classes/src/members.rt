@@ -1,4 +1,5 @@
-// How the members of a class are read, from the left.
+// How the members of a class are read, from the left: by index, since slice patterns in `read_single`, `read_bracket` and `next_member` cost a
+// class of the longest pattern 1.04 times the instructions (bench/instructions, limits).
 ghost use Rattle.std.specs.Prelude.{◌≡◌, ◌<◌, ◌+◌};
 ghost use Rattle.classes.specs.Members.{single, until_close, name_at, bracket_at, next_member};
 ghost use Rattle.classes.specs.inner.Scan.{step_of, plain_places, PlainTo};
@@ -8,8 +9,8 @@ use classnames::which_name;
 
 // What stands next in a class: its closing `]`, nothing that can be read, or a member: a byte, a range or one of the twelve names, and last
 // the number of bytes that it is written with. `Plain(n)`: a `[` that is a plain member though `[:` stands there,
-// with n bytes between that and the next `]`.
-#[derive(Drop)]
+// with n bytes between that and the next `]`. `Broken` is one step of these, as in the definition; an `Option` of a step would wrap the other five.
+#[derive(Clone, Copy, PartialEq, Eq, Debug)]
 pub enum Next {
     Close,
     Broken,
@@ -44,7 +45,7 @@ fn read_single(b: u8, n: usize, q: &[u8]) -> Next
     Next::Range(b, z, n + 3)
 }
 
-// How many bytes stand before the next `]`.
+// How many bytes stand before the next `]`: all where there is none, as in the definition, which counts the same way.
 pub fn until_close(q: &[u8]) -> usize
     ensures { result ≡ until_close q.now }
 {
@@ -59,17 +60,13 @@ fn read_name(q: &[u8]) -> Next
     if q.len() <= n {
         return Next::Broken;
     }
-    if n == 0 {
+    if n == 0 || q[n - 1] != b':' {
         return Next::Plain(n);
     }
-    if q[n - 1] != b':' {
-        return Next::Plain(n);
+    match which_name(&q[..n - 1]) {
+        Some(k) => Next::Name(k, n + 3),
+        None => Next::Broken,
     }
-    let k = which_name(&q[..n - 1]);
-    if 12 <= k {
-        return Next::Broken;
-    }
-    Next::Name(k, n + 3)
 }
 
 // What a `[` among the members begins; q stands after it.

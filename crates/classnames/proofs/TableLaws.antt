@@ -1,5 +1,6 @@
 -- A test of every number below a bound, which is computed, and what it shows of each: a table's rule is one such test.
--- And what is known of a place for which no arm of a `match` stands.
+-- And what is known of a place that no arm of a `match` stands for.
+use Rattle.std.proofs.lemmas.Bool.{and_parts}
 use mathlib.Core.Path.{◌≡◌, sym, ap, ◌∙◌}
 use mathlib.Core.Logic.{⊎_elim}
 use mathlib.Core.Bool.{Bool, true, ◌&&◌}
@@ -8,7 +9,6 @@ use Prim.Native.Nat.{ℕ, zero, suc, ◌<◌, ◌≤◌}
 use native.Mathlib.Nat.{not-suc-le-zero, le_of_suc-le-suc, eq-or-lt_of_le}
 use native.Mathlib.Omega.{arith}
 use lib.ListN.{length, get_or, get_or-eq_default}
-use Rattle.bytestrings.proofs.BoolLaws.{and_split}
 
 abbrev pub all_below : ℕ → (ℕ → Bool) → Bool
 all_below zero f = true
@@ -17,7 +17,7 @@ all_below (suc n) f = f n && all_below n f
 pub all_at : (n : ℕ) (f : ℕ → Bool) → all_below n f ≡ true → (k : ℕ) → k < n → f k ≡ true
 all_at zero f e k h = absurd (not-suc-le-zero h)
 all_at (suc n) f e k h =
-    let both = and_split (f n) (all_below n f) e in
+    let both = and_parts (f n) (all_below n f) e in
     ⊎_elim (λ (q : k ≡ n). ap f q ∙ both.0) (λ (l : k < n). all_at n f both.1 k l) (eq-or-lt_of_le (le_of_suc-le-suc h))
 
 -- the same of a table with rows of m entries

@@ -1,4 +1,2 @@
 -- What a reader must believe:
 pub mod Names
--- Inner definitions, none of which a public contract cites:
-pub mod inner

@@ -1,5 +1,6 @@
 -- Document 01, "Patterns": "one of the twelve names .. over ASCII as in the POSIX locale".
-use Rattle.std.specs.Prelude.{ℕ, suc, Bool, false, cond, ◌||◌, List, [], ◌∷◌, map, get_or}
+use Rattle.std.specs.Prelude.{ℕ, Bool, false, ◌||◌, List, [], ◌∷◌, map, get_or, Option}
+use Rattle.std.specs.List.{position}
 use Rattle.bytestrings.specs.Bytes.{in_range, same_bytes}
 use Rattle.bytestrings.specs.Text.{char, text, tab, carriage_return}
 
@@ -37,11 +38,6 @@ in_spans (s ∷ ss) x = in_range s.0 s.1 x || in_spans ss x
 unfoldable pub named : ℕ → ℕ → Bool
 named k x = in_spans (get_or spans k []) x
 
--- how many of the names stand before this one; all of them where it is none of them
-abbrev pub place_in : List ℕ → List (List ℕ) → ℕ
-place_in name [] = 0
-place_in name (n ∷ ns) = cond (same_bytes name n) 0 (suc (place_in name ns))
-
--- which of the twelve it is, or 12: "a name outside the twelve, the empty name too"
-unfoldable pub which_name : List ℕ → ℕ
-which_name name = place_in name names
+-- which of the twelve it is; none: "a name outside the twelve, the empty name too"
+unfoldable pub which_name : List ℕ → Option ℕ
+which_name name = position (λ known. same_bytes known name) names

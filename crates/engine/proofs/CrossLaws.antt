@@ -9,13 +9,11 @@ use lib.Dec.{eqb}
 use lib.ListN.{length, drop, get_or, length-drop}
 use lib.Seq.{drop-cons, drop-drop, get_or-drop}
 use borrow.Author.Tests.{eqb-true}
+use Rattle.std.proofs.lemmas.Bool.{or_cases, cases_lt, false_from_ne_true, and_parts}
 use Rattle.bytestrings.specs.Text.{char}
-use Rattle.bytestrings.proofs.OrderLaws.{before_or_not}
-use Rattle.bytestrings.proofs.BoolLaws.{or_cases}
 use Rattle.bytestrings.proofs.SliceLaws.{from, from-drop, drop_on, get_or_on}
-use Rattle.bytestrings.proofs.BoolLaws.{false_if_not, not_both}
+use Rattle.bytestrings.proofs.BoolLaws.{not_both}
 use Rattle.engine.proofs.OutcomeLaws.{means-failed, means-within, run_at, at_run, all_run, matched-run}
-use Rattle.bytestrings.proofs.BoolLaws.{and_split}
 use Rattle.patterns.specs.MatchTest.{one_then, run_then, tail_matches}
 use Rattle.engine.specs.inner.Outcomes.{run-to_slash, May, Never, Means, MeansRun, NextSlash, FirstPlace}
 use Rattle.patterns.specs.inner.Tails.{slash_then}
@@ -28,13 +26,13 @@ Spot here t k = ((k ≡ 0) × (here ≡ true)) ⊎ ((1 ≤ k) × (get_or t (k - 
 
 one_at : (a : ℕ → Bool) (f : List ℕ → Bool) (u : List ℕ) → one_then a f u ≡ true → (1 ≤ length u) × (a (get_or u 0 0) ≡ true) × (f (drop 1 u) ≡ true)
 one_at a f [] e = absurd (false≢true e)
-one_at a f (x ∷ u) e = let s = and_split (a x) (f u) e in (omega arith, s.0, s.1)
+one_at a f (x ∷ u) e = let s = and_parts (a x) (f u) e in (omega arith, s.0, s.1)
 
 module _ (m : Mode) (here : Bool) (p t : List ℕ) where
   slash_at : slash_then m here p t ≡ true → (k : ℕ) × (k ≤ length t) × Spot here t k × (tail_matches m true p (drop k t) ≡ true)
   unfolding slash_then
   slash_at e =
-      ⊎_elim (λ h. let s = and_split here (tail_matches m true p t) h in (0, omega arith, inl (refl, s.0), s.1))
+      ⊎_elim (λ h. let s = and_parts here (tail_matches m true p t) h in (0, omega arith, inl (refl, s.0), s.1))
       (λ h. let r = run_at (λ x. true) (one_then (λ x. eqb x (char "/")) (tail_matches m true p)) t h in
       let s = one_at (λ x. eqb x (char "/")) (tail_matches m true p) (drop r.0 t) r.3 in
       let a : r.0 + 0 ≡ r.0 + 1 - 1 = omega arith in (
@@ -64,7 +62,7 @@ module _ (m : Mode) (here : Bool) (p t : List ℕ) where
   cross_all : ((j : ℕ) → j ≤ length t → Spot here t j → tail_matches m true p (drop j t) ≡ false) → MeansRun m true (slash_then m here p) t AbortAll
   unfolding MeansRun Means Never
   cross_all h = (
-    λ k l w. false_if_not _ (λ e. let r = slash_at m here p (drop k t) e in
+    λ k l w. false_from_ne_true _ (λ e. let r = slash_at m here p (drop k t) e in
         not_both (rw drop-drop at r.3) (h (k + r.0) (omega (arith, rw length-drop at r.1)) (reach_spot here m t k r.0 w r.2))),
     all_run,
   )
@@ -92,10 +90,10 @@ module _ (m : Mode) (here : Bool) (p t : List ℕ) where
 
   pub cross_next : (k n : ℕ) → Cross k → tail_matches m true p (drop k t) ≡ false → NextSlash t k n → Cross n
   unfolding NextSlash
-  cross_next k n i f h = (h.1, λ j l d s. ⊎_elim (λ b. i.1 j b d s) (λ b. later j b l d s) (before_or_not j k), λ l. inr (omega (arith, h.0), h.2 l))
+  cross_next k n i f h = (h.1, λ j l d s. ⊎_elim (λ b. i.1 j b d s) (λ b. later j b l d s) (cases_lt j k), λ l. inr (omega (arith, h.0), h.2 l))
     where
       later : (j : ℕ) → k ≤ j → j < n → j ≤ length t → Spot here t j → tail_matches m true p (drop j t) ≡ false
-      later j b l d s = ⊎_elim (λ a. absurd (none_between k n j h a l d s)) (λ a. let e : k ≡ j = omega arith in subst (λ (x : ℕ). tail_matches m true p (drop x t) ≡ false) e f) (before_or_not k j)
+      later j b l d s = ⊎_elim (λ a. absurd (none_between k n j h a l d s)) (λ a. let e : k ≡ j = omega arith in subst (λ (x : ℕ). tail_matches m true p (drop x t) ≡ false) e f) (cases_lt k j)
 
   pub cross_matched : (k : ℕ) → Cross k → k ≤ length t → Means m true (tail_matches m true p) (from k t) Matched → MeansRun m true (slash_then m here p) t Matched
   unfolding MeansRun Means
@@ -104,13 +102,13 @@ module _ (m : Mode) (here : Bool) (p t : List ℕ) where
   pub cross_decides : (k : ℕ) → Cross k → k ≤ length t → Means m true (tail_matches m true p) (from k t) AbortAll → MeansRun m true (slash_then m here p) t AbortAll
   unfolding Means Never
   cross_decides k i l s = cross_all (λ j d h. ⊎_elim (λ b. i.1 j b d h)
-      (λ b. subst (λ (u : List ℕ). tail_matches m true p u ≡ false) (drop_on k j t b) ((rw from-drop at s) (j - k) (rw length-drop (omega arith)) (on j b h))) (before_or_not j k))
+      (λ b. subst (λ (u : List ℕ). tail_matches m true p u ≡ false) (drop_on k j t b) ((rw from-drop at s) (j - k) (rw length-drop (omega arith)) (on j b h))) (cases_lt j k))
     where
       on : (j : ℕ) → k ≤ j → Spot here t j → May m run-to_slash (drop k t) (j - k)
       on j b (inl h) = inl (omega (arith, h.0))
       on j b (inr h) =
           ⊎_elim (λ a. let e : j - 1 - k ≡ j - k - 1 = omega arith in inr (ap (λ (n : ℕ). get_or (drop k t) n 0) (sym e) ∙ get_or_on k (j - 1) t (omega arith) ∙ h.1)) (λ a. inl (omega arith))
-          (before_or_not k j)
+          (cases_lt k j)
 
   pub cross_end : (k : ℕ) → Cross k → length t < k → MeansRun m true (slash_then m here p) t AbortAll
   cross_end k i l = cross_all (λ j d s. i.1 j (omega arith) d s)

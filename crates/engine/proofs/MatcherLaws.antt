@@ -79,24 +79,21 @@ slash_long [] s = absurd (false≢true s)
 slash_long (x ∷ q) s = omega arith
 
 -- the flag at place 0, and at a later place
-pub after-start : (after : Bool) (p : List ℕ) (i : ℕ) → i ≡ 0 → after ≡ after_at after p i
+pub follows_start : (p : List ℕ) (i : ℕ) → i ≡ 0 → eqb i 0 ≡ after_at true p i
 unfolding after_at
-after-start after p i e = rw e refl
+follows_start p i e = rw e refl
 
-pub after-later : (after : Bool) (p : List ℕ) (i : ℕ) → (i ≡ 0 → ⊥) → eqb (get_or p (i - 1) 0) (char "/") ≡ after_at after p i
+pub follows_later : (p : List ℕ) (i : ℕ) → (i ≡ 0 → ⊥) → eqb (get_or p (i - 1) 0) (char "/") ≡ after_at true p i
 unfolding after_at
-after-later after p zero h = absurd (h refl)
-after-later after p (suc i) h = let e : suc i - 1 ≡ i = omega arith in ap (λ (k : ℕ). eqb (get_or p k 0) (char "/")) e
+follows_later p zero h = absurd (h refl)
+follows_later p (suc i) h = let e : suc i - 1 ≡ i = omega arith in ap (λ (k : ℕ). eqb (get_or p k 0) (char "/")) e
 
 -- the next `/`
-pub slash_found : (t : List ℕ) (k j : ℕ) → k ≤ j → j < length t → get_or t j 0 ≡ char "/" → ((i : ℕ) → i < j → k ≤ i → get_or t i 0 ≡ char "/" → ⊥) → NextSlash t k (j + 1)
+pub slash_next : (t : List ℕ) (k n : ℕ) → k ≤ n → n ≤ length t → ((j : ℕ) → j < n → k ≤ j → get_or t j 0 ≡ char "/" → ⊥) → (n < length t → get_or t n 0 ≡ char "/")
+    → NextSlash t k (n + 1)
 unfolding NextSlash
-slash_found t k j a l e h = let q : j + 1 - 1 ≡ j = omega arith in
-    (omega arith, omega arith, λ b. ap (λ (i : ℕ). get_or t i 0) q ∙ e, λ i b d f w. h (i - 1) (omega arith) (omega arith) w)
-
-pub slash_none : (t : List ℕ) (k j : ℕ) → k ≤ j → j ≤ length t → length t ≤ j → ((i : ℕ) → i < j → k ≤ i → get_or t i 0 ≡ char "/" → ⊥) → NextSlash t k (j + 1)
-unfolding NextSlash
-slash_none t k j a l b h = (omega arith, omega arith, λ d. absurd (omega arith), λ i x y f w. h (i - 1) (omega arith) (omega arith) w)
+slash_next t k n a l h e = let q : n + 1 - 1 ≡ n = omega arith in
+    (omega arith, omega arith, λ b. ap (λ (i : ℕ). get_or t i 0) q ∙ e (omega arith), λ i b d f w. h (i - 1) (omega arith) (omega arith) w)
 
 -- The same claim at the outcome that the code has.
 

@@ -8,14 +8,12 @@ use native.Mathlib.Omega.{arith}
 use lib.ListN.{length, drop, get_or, length-drop}
 use lib.Seq.{drop-drop, get_or-drop}
 use borrow.Author.Count.{below_more}
-use Rattle.bytestrings.proofs.OrderLaws.{before_or_not}
-use Rattle.bytestrings.proofs.BoolLaws.{or_cases}
+use Rattle.std.proofs.lemmas.Bool.{or_cases, cases_lt, false_from_ne_true, and_parts}
 use Rattle.bytestrings.proofs.SliceLaws.{from, from-drop, drop_on, get_or_on}
-use Rattle.bytestrings.proofs.BoolLaws.{false_if_not, not_both}
+use Rattle.bytestrings.proofs.BoolLaws.{not_both}
 use Rattle.patterns.specs.Sharing.{inside}
-use Rattle.bytestrings.proofs.BoolLaws.{and_split}
-use Rattle.patterns.proofs.Meaning.{run_here}
-use Rattle.patterns.specs.MatchTest.{run_then, tail_matches, matches_test}
+use Rattle.patterns.proofs.Meaning.{run_here, decides}
+use Rattle.patterns.specs.MatchTest.{run_then, tail_matches, matches_test, MatchDecided}
 use Rattle.engine.specs.inner.Outcomes.{RunBefore, no_run, run-within, run-to_slash, any_run, May, Never, Means, MeansRun, Passed, Skipped}
 use Rattle.patterns.specs.inner.Tails.{within_then}
 use Rattle.patterns.specs.declared.Mode.{Mode}
@@ -40,19 +38,20 @@ pub means-within : (m : Mode) (after : Bool) (f : List ℕ → Bool) (t : List �
 unfolding Means
 means-within m after f t h = never_here m _ f t h
 
-abbrev pub matched : Outcome → Bool
-matched Matched = true
-matched NoMatch = false
-matched AbortToStarStar = false
-matched AbortAll = false
-
 -- the answer of the whole pattern
-pub means-answer : (m : Mode) (p t : List ℕ) (r : Outcome) → Means m true (tail_matches m true p) t r → matched r ≡ matches_test m p t
+pub answer_matched : (m : Mode) (p t : List ℕ) (r : Outcome) → Means m true (tail_matches m true p) t r → r ≡ Matched → MatchDecided m p t true
 unfolding Means matches_test
-means-answer m p t Matched h = sym h
-means-answer m p t NoMatch h = sym (never_here m no_run (tail_matches m true p) t h)
-means-answer m p t AbortToStarStar h = sym (never_here m run-within (tail_matches m true p) t h)
-means-answer m p t AbortAll h = sym (never_here m run-to_slash (tail_matches m true p) t h)
+answer_matched m p t Matched h e = decides m p t true (sym h)
+answer_matched m p t NoMatch h e = absurd cc
+answer_matched m p t AbortToStarStar h e = absurd cc
+answer_matched m p t AbortAll h e = absurd cc
+
+pub answer_other : (m : Mode) (p t : List ℕ) (r : Outcome) → Means m true (tail_matches m true p) t r → (r ≡ Matched → ⊥) → MatchDecided m p t false
+unfolding Means matches_test
+answer_other m p t Matched h n = absurd (n refl)
+answer_other m p t NoMatch h n = decides m p t false (sym (never_here m no_run (tail_matches m true p) t h))
+answer_other m p t AbortToStarStar h n = decides m p t false (sym (never_here m run-within (tail_matches m true p) t h))
+answer_other m p t AbortAll h n = decides m p t false (sym (never_here m run-to_slash (tail_matches m true p) t h))
 
 -- an outcome means the same for a test that gives the same answers, and what it means after any byte it means after `/`
 pub means_same : (m : Mode) (after : Bool) (f g : List ℕ → Bool) (t : List ℕ) (r : Outcome) → ((u : List ℕ) → f u ≡ g u) → MeansRun m after g t r → MeansRun m after f t r
@@ -72,7 +71,7 @@ pub run_at : (a : ℕ → Bool) (f : List ℕ → Bool) (t : List ℕ) → run_t
 run_at a f [] e = (0, omega arith, λ j l. absurd (omega arith), e)
 run_at a f (x ∷ t) e =
     ⊎_elim (λ h. (0, omega arith, λ j l. absurd (omega arith), h))
-    (λ h. let s = and_split (a x) (run_then a f t) h in let r = run_at a f t s.1 in (suc r.0, omega (arith, r.1), on s.0 r.0 r.2, r.3))
+    (λ h. let s = and_parts (a x) (run_then a f t) h in let r = run_at a f t s.1 in (suc r.0, omega (arith, r.1), on s.0 r.0 r.2, r.3))
     (or_cases (f (x ∷ t)) (a x && run_then a f t) e)
   where
     on : a x ≡ true → (k : ℕ) → ((j : ℕ) → j < k → a (get_or t j 0) ≡ true) → (j : ℕ) → j < suc k → a (get_or (x ∷ t) j 0) ≡ true
@@ -103,7 +102,7 @@ module _ (m : Mode) (p t : List ℕ) where
   within_all : ((j : ℕ) → j ≤ length t → tail_matches m false p (drop j t) ≡ false) → MeansRun m false (within_then m p) t AbortAll
   unfolding MeansRun Means Never within_then
   within_all h = (
-    λ k l w. false_if_not _ (λ e. let r = run_at (inside m) (tail_matches m false p) (drop k t) e in
+    λ k l w. false_from_ne_true _ (λ e. let r = run_at (inside m) (tail_matches m false p) (drop k t) e in
         not_both (rw drop-drop at r.3) (h (k + r.0) (omega (arith, rw length-drop at r.1)))),
     all_run,
   )
@@ -111,14 +110,14 @@ module _ (m : Mode) (p t : List ℕ) where
   within-within : ((j : ℕ) → j ≤ length t → May m run-within t j → tail_matches m false p (drop j t) ≡ false) → MeansRun m false (within_then m p) t AbortToStarStar
   unfolding MeansRun Means Never within_then
   within-within h = (
-    λ k l w. false_if_not _ (λ e. let r = run_at (inside m) (tail_matches m false p) (drop k t) e in
+    λ k l w. false_from_ne_true _ (λ e. let r = run_at (inside m) (tail_matches m false p) (drop k t) e in
         not_both (rw drop-drop at r.3) (h (k + r.0) (omega (arith, rw length-drop at r.1)) (both k r.0 w r.2))),
     within-run,
   )
     where
       both : (k b : ℕ) → May m run-within t k → May m run-within (drop k t) b → May m run-within t (k + b)
       both k b w v j l =
-          ⊎_elim (λ i. w j i) (λ i. subst (λ (x : ℕ). inside m x ≡ true) (get_or_on k j t i) (v (j - k) (omega arith))) (before_or_not j k)
+          ⊎_elim (λ i. w j i) (λ i. subst (λ (x : ℕ). inside m x ≡ true) (get_or_on k j t i) (v (j - k) (omega arith))) (cases_lt j k)
 
   -- the loop over the places: k bytes are inside, and at none of their places does p match
   abbrev pub WithinRun : ℕ → Type 0
@@ -129,7 +128,7 @@ module _ (m : Mode) (p t : List ℕ) where
 
   pub within_skip : (k n : ℕ) → WithinRun k → Skipped m p t k n → WithinRun n
   unfolding Skipped Passed
-  within_skip k n i h = (h.1, λ j l. ⊎_elim (i.1 j) (λ b. (h.2 j l b).0) (before_or_not j k), λ j l. ⊎_elim (i.2 j) (λ b. (h.2 j l b).1) (before_or_not j k))
+  within_skip k n i h = (h.1, λ j l. ⊎_elim (i.1 j) (λ b. (h.2 j l b).0) (cases_lt j k), λ j l. ⊎_elim (i.2 j) (λ b. (h.2 j l b).1) (cases_lt j k))
 
   failed_here : (k : ℕ) → Means m false (tail_matches m false p) (from k t) NoMatch → tail_matches m false p (drop k t) ≡ false
   failed_here k s = rw from-drop at (means-failed m false (tail_matches m false p) (from k t) s)
@@ -141,7 +140,7 @@ module _ (m : Mode) (p t : List ℕ) where
   within_end k i l s = within_all (λ j h. below_more _ k i.2 (failed_here k s) j (omega (arith, i.0)))
 
   pub within_stop : (k : ℕ) → WithinRun k → inside m (get_or t k 0) ≡ false → Means m false (tail_matches m false p) (from k t) NoMatch → MeansRun m false (within_then m p) t AbortToStarStar
-  within_stop k i a s = within-within (λ j h w. below_more _ k i.2 (failed_here k s) j (⊎_elim (λ l. absurd (not_both (w k l) a)) (λ l. omega arith) (before_or_not k j)))
+  within_stop k i a s = within-within (λ j h w. below_more _ k i.2 (failed_here k s) j (⊎_elim (λ l. absurd (not_both (w k l) a)) (λ l. omega arith) (cases_lt k j)))
 
   -- where p decides at place k, it decides
   pub within_decides : (k : ℕ) (r : Outcome) → WithinRun k → Means m false (tail_matches m false p) (from k t) r → (r ≡ NoMatch → ⊥) → MeansRun m false (within_then m p) t r
@@ -150,6 +149,6 @@ module _ (m : Mode) (p t : List ℕ) where
   within_decides k NoMatch i s n = absurd (n refl)
   within_decides k AbortToStarStar i s n = within-within (λ j h w. ⊎_elim (i.2 j)
       (λ l. subst (λ (u : List ℕ). tail_matches m false p u ≡ false) (drop_on k j t l)
-      ((rw from-drop at s) (j - k) (rw length-drop (omega arith)) (λ b d. subst (λ (x : ℕ). inside m x ≡ true) (sym (get_or-drop k t b 0)) (w (k + b) (omega arith))))) (before_or_not j k))
+      ((rw from-drop at s) (j - k) (rw length-drop (omega arith)) (λ b d. subst (λ (x : ℕ). inside m x ≡ true) (sym (get_or-drop k t b 0)) (w (k + b) (omega arith))))) (cases_lt j k))
   within_decides k AbortAll i s n = within_all (λ j h. ⊎_elim (i.2 j)
-      (λ l. subst (λ (u : List ℕ). tail_matches m false p u ≡ false) (drop_on k j t l) ((rw from-drop at s) (j - k) (rw length-drop (omega arith)) tt)) (before_or_not j k))
+      (λ l. subst (λ (u : List ℕ). tail_matches m false p u ≡ false) (drop_on k j t l) ((rw from-drop at s) (j - k) (rw length-drop (omega arith)) tt)) (cases_lt j k))

@@ -1,11 +1,11 @@
 -- What the run at the start of a pattern leaves to be matched, by the tests that the code makes.
-use mathlib.Core.Path.{◌≡◌, sym, ap, subst, ◌∙◌}
+use mathlib.Core.Path.{◌≡◌, refl, sym, ap, subst, ◌∙◌}
 use mathlib.Core.Bool.{Bool, true, false}
 use mathlib.Core.List.{List, [], ◌∷◌}
-use Prim.Native.Nat.{ℕ, ◌+◌, ◌<◌}
+use Prim.Native.Nat.{ℕ, ◌+◌, ◌<◌, ◌≤◌}
 use native.Mathlib.Omega.{arith}
 use lib.ListN.{length, drop, get_or}
-use borrow.Author.Tests.{eq-eqb}
+use borrow.Author.Tests.{eq-eqb, ne_eqb}
 use Rattle.bytestrings.specs.Text.{char}
 use Rattle.bytestrings.proofs.SliceLaws.{from, from-drop, from-from, length_from}
 use Rattle.patterns.proofs.ReadLaws.{stars_last}
@@ -19,6 +19,17 @@ use Rattle.engine.specs.declared.runkind.RunKind.TheVariants.{Within, All, ToSla
 stars-after : (after : Bool) (p : List ℕ) → 0 < length p → get_or p 0 0 ≡ char "*" → after_at after p (stars p) ≡ false
 stars-after after [] l e = absurd (omega arith)
 stars-after after (x ∷ p) l e = (stars_last x p after (eq-eqb x (char "*") e)).2
+
+-- whether a `/` is next, by the first byte
+pub starts_at : (q : List ℕ) → 1 ≤ length q → get_or q 0 0 ≡ char "/" → starts_slash q ≡ true
+unfolding starts_slash
+starts_at [] l e = absurd (omega arith)
+starts_at (x ∷ q) l e = eq-eqb x (char "/") e
+
+pub starts_not : (q : List ℕ) → (get_or q 0 0 ≡ char "/" → ⊥) → starts_slash q ≡ false
+unfolding starts_slash
+starts_not [] n = refl
+starts_not (x ∷ q) n = ne_eqb x (char "/") n
 
 module _ (m : Mode) (after : Bool) (p : List ℕ) (n : ℕ) (l : 0 < length p) (e : get_or p 0 0 ≡ char "*") (c : n ≡ stars p) where
   flag : after_at after p n ≡ false

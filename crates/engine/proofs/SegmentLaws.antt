@@ -3,6 +3,8 @@ use mathlib.Core.Path.{◌≡◌, refl, sym, ap, ap₂, subst, ◌∙◌}
 use mathlib.Core.Logic.{inl, inr, ⊎_elim}
 use mathlib.Core.Bool.{Bool, true, false, cond, not, ◌&&◌, false≢true}
 use mathlib.Core.List.{List, [], ◌∷◌}
+use Rattle.std.proofs.lemmas.Bool.{and_parts, cases_lt}
+use Rattle.std.specs.Prelude.{None, Some}
 use Prim.Native.Nat.{ℕ, zero, suc, ◌+◌, ◌-◌, ◌<◌, ◌≤◌}
 use native.Mathlib.Omega.{arith}
 use lib.Dec.{eqb}
@@ -12,11 +14,9 @@ use borrow.Author.Tests.{eqb-true, not-true}
 use Rattle.bytestrings.specs.Text.{char}
 use Rattle.bytestrings.specs.Letters.{folded}
 use Rattle.bytestrings.proofs.LetterLaws.{folded_slash, folded_same}
-use Rattle.bytestrings.proofs.OrderLaws.{before_or_not}
 use Rattle.bytestrings.proofs.SliceLaws.{from, from-drop}
 use Rattle.patterns.proofs.ReadLaws.{single, ends_slash, Sized, item_sized}
 use Rattle.patterns.proofs.TailLaws.{One, item_one, tail_one, tail_broken, tail_nil}
-use Rattle.bytestrings.proofs.BoolLaws.{and_split}
 use Rattle.patterns.specs.Patterns.{Item, literal, any_byte, one_of, run, First, broken, item, read_item}
 use Rattle.patterns.specs.Sharing.{inside, accepts}
 use Rattle.patterns.specs.MatchTest.{one_then, tail_matches}
@@ -38,7 +38,7 @@ accepts-inside : (m : Mode) (it : Item) (x y : ℕ) → inside m x ≡ true → 
 unfolding accepts inside
 accepts-inside m (literal c) x y i a b = literal-inside m.path m.fold c x y i a b
 accepts-inside m any_byte x y i a b = b
-accepts-inside m (one_of k) x y i a b = (and_split (not (m.path && eqb y (char "/"))) _ b).0
+accepts-inside m (one_of k) x y i a b = (and_parts (not (m.path && eqb y (char "/"))) _ b).0
 accepts-inside m (run r) x y i a b = absurd (false≢true a)
 
 -- an item that ends in `/` accepts nothing else
@@ -58,7 +58,7 @@ shifted m it after x u NoMatch k a b w = w
 shifted m it after x u AbortToStarStar k a b w = λ j l.
     ⊎_elim (λ h. w (suc j) h) (λ h. let e : suc j ≡ k = omega arith in subst (λ (n : ℕ). inside m (get_or (x ∷ u) n 0) ≡ true) (sym e)
     (accepts-inside m it x (get_or (x ∷ u) k 0) (w 0 (omega arith)) a b))
-    (before_or_not (suc j) k)
+    (cases_lt (suc j) k)
 shifted m it after x u AbortAll k a b w = go (ends_slash it) refl k b
   where
     go : (s : Bool) → ends_slash it ≡ s → (k : ℕ) → accepts m it (get_or (x ∷ u) k 0) ≡ true → May m (run_before s AbortAll) u k
@@ -95,30 +95,31 @@ module _ (m : Mode) (after : Bool) (y : ℕ) (q : List ℕ) (it : Item) (n : ℕ
 -- The code's tests.
 
 -- the first item of y ∷ q, where it is no run and accepts x
-taken_item : (m : Mode) (after : Bool) (y : ℕ) (q : List ℕ) (x n : ℕ) → (y ≡ char "*" → ⊥) → n ≡ taken m (y ∷ q) x → (n ≡ 0 → ⊥)
+taken_item : (m : Mode) (after : Bool) (y : ℕ) (q : List ℕ) (x n : ℕ) → (y ≡ char "*" → ⊥) → Some n ≡ taken m (y ∷ q) x
     → (it : Item) × (read_item after y q ≡ item it n) × (single it ≡ true) × (accepts m it x ≡ true)
 unfolding taken taken_by
-taken_item m after y q x n h e z = let o = item_one after y q h in go (read_item after y q) refl (e ∙ ap (taken_by m x) (sym o.0)) o.1
+taken_item m after y q x n h e = let o = item_one after y q h in go (read_item after y q) refl (e ∙ ap (taken_by m x) (sym o.0)) o.1
   where
-    pick : (it : Item) (k : ℕ) (b : Bool) → accepts m it x ≡ b → n ≡ cond b k 0 → read_item after y q ≡ item it k → single it ≡ true
+    pick : (it : Item) (k : ℕ) (b : Bool) → accepts m it x ≡ b → Some n ≡ cond b (Some k) None → read_item after y q ≡ item it k → single it ≡ true
         → (it : Item) × (read_item after y q ≡ item it n) × (single it ≡ true) × (accepts m it x ≡ true)
-    pick it k true a w g s = (it, g ∙ ap (item it) (sym w), s, a)
-    pick it k false a w g s = absurd (z w)
+    pick it k true a w g s = let e : k ≡ n = cc in (it, g ∙ ap (item it) e, s, a)
+    pick it k false a w g s = absurd cc
 
-    go : (f : First) → read_item after y q ≡ f → n ≡ taken_by m x f → One f → (it : Item) × (read_item after y q ≡ item it n) × (single it ≡ true) × (accepts m it x ≡ true)
-    go broken g w s = absurd (z w)
+    go : (f : First) → read_item after y q ≡ f → Some n ≡ taken_by m x f → One f → (it : Item) × (read_item after y q ≡ item it n) × (single it ≡ true) × (accepts m it x ≡ true)
+    go broken g w s = absurd cc
     go (item it k) g w s = pick it k (accepts m it x) refl w g s
 
 -- where an item of one byte does not accept x, or is broken, the pattern does not match
-taken_none : (m : Mode) (after : Bool) (y : ℕ) (q : List ℕ) (x : ℕ) (u : List ℕ) → (y ≡ char "*" → ⊥) → 0 ≡ taken m (y ∷ q) x → tail_matches m after (y ∷ q) (x ∷ u) ≡ false
+taken_none : (m : Mode) (after : Bool) (y : ℕ) (q : List ℕ) (x : ℕ) (u : List ℕ) → (y ≡ char "*" → ⊥) → None ≡ taken m (y ∷ q) x → tail_matches m after (y ∷ q) (x ∷ u) ≡ false
 unfolding taken taken_by
 taken_none m after y q x u h e = let o = item_one after y q h in go (read_item after y q) refl (e ∙ ap (taken_by m x) (sym o.0)) o.1
   where
-    pick : (it : Item) (k : ℕ) (b : Bool) → accepts m it x ≡ b → 0 ≡ cond b k 0 → read_item after y q ≡ item it k → (b && tail_matches m (after_at after (y ∷ q) k) (drop k (y ∷ q)) u) ≡ false
-    pick it k true a w g = absurd (omega (arith, (subst (Sized after (y ∷ q)) g (item_sized after y q)).0))
+    pick : (it : Item) (k : ℕ) (b : Bool) → accepts m it x ≡ b → None ≡ cond b (Some k) None → read_item after y q ≡ item it k
+        → (b && tail_matches m (after_at after (y ∷ q) k) (drop k (y ∷ q)) u) ≡ false
+    pick it k true a w g = absurd cc
     pick it k false a w g = refl
 
-    go : (f : First) → read_item after y q ≡ f → 0 ≡ taken_by m x f → One f → tail_matches m after (y ∷ q) (x ∷ u) ≡ false
+    go : (f : First) → read_item after y q ≡ f → None ≡ taken_by m x f → One f → tail_matches m after (y ∷ q) (x ∷ u) ≡ false
     go broken g w s = tail_broken m after y q (x ∷ u) g
     go (item it k) g w s = tail_one m after y q it k (x ∷ u) g s ∙ pick it k (accepts m it x) refl w g
 
@@ -135,16 +136,16 @@ after_at-drop after p i zero h = absurd (omega arith)
 after_at-drop after p i (suc n) h = let e : suc (i + n) ≡ i + suc n = omega arith in ap (λ (b : ℕ). eqb b (char "/")) (get_or-drop i p n 0) ∙ ap (after_at after p) e
 
 -- one turn, at the fronts of a pattern and a text
-step : (m : Mode) (b : Bool) (p t : List ℕ) (n : ℕ) → 0 < length p → 0 < length t → (get_or p 0 0 ≡ char "*" → ⊥) → n ≡ taken m p (get_or t 0 0) → (n ≡ 0 → ⊥)
+step : (m : Mode) (b : Bool) (p t : List ℕ) (n : ℕ) → 0 < length p → 0 < length t → (get_or p 0 0 ≡ char "*" → ⊥) → Some n ≡ taken m p (get_or t 0 0)
     → (1 ≤ n) × (n ≤ length p) × ((r : Outcome) → Means m (after_at b p n) (tail_matches m (after_at b p n) (drop n p)) (drop 1 t) r → Means m b (tail_matches m b p) t r)
-step m b [] t n k l h e z = absurd (omega arith)
-step m b (y ∷ q) [] n k l h e z = absurd (omega arith)
-step m b (y ∷ q) (x ∷ u) n k l h e z =
-    let f = taken_item m b y q x n h e z in
+step m b [] t n k l h e = absurd (omega arith)
+step m b (y ∷ q) [] n k l h e = absurd (omega arith)
+step m b (y ∷ q) (x ∷ u) n k l h e =
+    let f = taken_item m b y q x n h e in
     let g = subst (Sized b (y ∷ q)) f.1 (item_sized b y q) in
     (g.0, g.1, means_more m b y q f.0 n f.1 f.2 x u f.3)
 
-pub mismatch : (m : Mode) (b : Bool) (p t : List ℕ) → 0 < length p → 0 < length t → (get_or p 0 0 ≡ char "*" → ⊥) → 0 ≡ taken m p (get_or t 0 0) → tail_matches m b p t ≡ false
+pub mismatch : (m : Mode) (b : Bool) (p t : List ℕ) → 0 < length p → 0 < length t → (get_or p 0 0 ≡ char "*" → ⊥) → None ≡ taken m p (get_or t 0 0) → tail_matches m b p t ≡ false
 mismatch m b [] t k l h e = absurd (omega arith)
 mismatch m b (y ∷ q) [] k l h e = absurd (omega arith)
 mismatch m b (y ∷ q) (x ∷ u) k l h e = taken_none m b y q x u h e
@@ -178,21 +179,21 @@ module _ (m : Mode) (p t : List ℕ) where
   unfolding after_at
   along_begin = (omega arith, omega arith, λ after r h. h)
 
-  at_front : (i j n : ℕ) → i < length p → j < length t → (get_or p i 0 ≡ char "*" → ⊥) → n ≡ taken m (from i p) (get_or t j 0) → (n ≡ 0 → ⊥) → (b : Bool)
+  at_front : (i j n : ℕ) → i < length p → j < length t → (get_or p i 0 ≡ char "*" → ⊥) → Some n ≡ taken m (from i p) (get_or t j 0) → (b : Bool)
       → (1 ≤ n) × (n ≤ length (drop i p)) × ((r : Outcome) → Means m (after_at b (drop i p) n) (tail_matches m (after_at b (drop i p) n) (drop n (drop i p))) (drop 1 (drop j t)) r
       → Means m b (tail_matches m b (drop i p)) (drop j t) r)
-  at_front i j n k l h e z b =
-      step m b (drop i p) (drop j t) n (rw length-drop (omega arith)) (rw length-drop (omega arith)) (λ w. h (front i p w)) (e ∙ ap₂ (taken m) (from-drop i p) (sym (first j t))) z
+  at_front i j n k l h e b =
+      step m b (drop i p) (drop j t) n (rw length-drop (omega arith)) (rw length-drop (omega arith)) (λ w. h (front i p w)) (e ∙ ap₂ (taken m) (from-drop i p) (sym (first j t)))
 
-  pub along_fits : (i j n : ℕ) → Along i j → i < length p → j < length t → (get_or p i 0 ≡ char "*" → ⊥) → n ≡ taken m (from i p) (get_or t j 0) → (n ≡ 0 → ⊥) → (1 ≤ n) × (i + n ≤ length p)
-  along_fits i j n a k l h e z = let s = at_front i j n k l h e z false in (s.0, omega (arith, rw length-drop at s.1))
+  pub along_fits : (i j n : ℕ) → Along i j → i < length p → j < length t → (get_or p i 0 ≡ char "*" → ⊥) → Some n ≡ taken m (from i p) (get_or t j 0) → (1 ≤ n) × (i + n ≤ length p)
+  along_fits i j n a k l h e = let s = at_front i j n k l h e false in (s.0, omega (arith, rw length-drop at s.1))
 
-  pub along_next : (i j n : ℕ) → Along i j → i < length p → j < length t → (get_or p i 0 ≡ char "*" → ⊥) → n ≡ taken m (from i p) (get_or t j 0) → (n ≡ 0 → ⊥) → Along (i + n) (j + 1)
-  along_next i j n a k l h e z =
-      let s = along_fits i j n a k l h e z in (
+  pub along_next : (i j n : ℕ) → Along i j → i < length p → j < length t → (get_or p i 0 ≡ char "*" → ⊥) → Some n ≡ taken m (from i p) (get_or t j 0) → Along (i + n) (j + 1)
+  along_next i j n a k l h e =
+      let s = along_fits i j n a k l h e in (
         s.1,
         omega arith,
-        λ after r w. a.2 after r ((at_front i j n k l h e z (after_at after p i)).2 r
+        λ after r w. a.2 after r ((at_front i j n k l h e (after_at after p i)).2 r
             (subst (λ (f : Bool). Means m f (tail_matches m f (drop n (drop i p))) (drop 1 (drop j t)) r) (sym (after_at-drop after p i n s.0))
             (rw (drop-drop n i p, drop-drop 1 j t) w))),
       )
@@ -206,7 +207,7 @@ module _ (m : Mode) (p t : List ℕ) where
   along_short i j a k h l after =
       a.2 after AbortAll (rw (drop_of_length-le t l) (failed_all m (after_at after p i) _ (short m (after_at after p i) (drop i p) (rw length-drop (omega arith)) (λ e. h (front i p e)))))
 
-  pub along_mismatch : (i j : ℕ) → Along i j → i < length p → j < length t → (get_or p i 0 ≡ char "*" → ⊥) → 0 ≡ taken m (from i p) (get_or t j 0) → Stops m p t Mismatch
+  pub along_mismatch : (i j : ℕ) → Along i j → i < length p → j < length t → (get_or p i 0 ≡ char "*" → ⊥) → None ≡ taken m (from i p) (get_or t j 0) → Stops m p t Mismatch
   unfolding Stops
   along_mismatch i j a k l h e after = a.2 after NoMatch (failed m (after_at after p i) _ (drop j t)
       (mismatch m (after_at after p i) (drop i p) (drop j t) (rw length-drop (omega arith)) (rw length-drop (omega arith))

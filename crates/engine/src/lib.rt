@@ -13,13 +13,9 @@ use matcher::{Outcome, match_items};
 use patterns::Mode;
 
 // Whether the pattern matches the text, of any length and with any bytes: for callers that have done their own refusing.
+#[tactic(auto, using(crate::proofs::OutcomeLaws::answer_other))]
 pub fn matches(pattern: &[u8], text: &[u8], mode: Mode) -> bool
     ensures { MatchDecided mode pattern.now text.now result }
 {
-    match match_items(pattern, text, mode) {
-        Outcome::Matched => true,
-        Outcome::NoMatch => false,
-        Outcome::AbortToStarStar => false,
-        Outcome::AbortAll => false,
-    }
+    matches!(match_items(pattern, text, mode), Outcome::Matched)
 }

@@ -10,13 +10,15 @@ ghost use Rattle.engine.specs.inner.Outcomes.{Means, MeansRun, NextSlash, FirstP
 
 use crate::runkind::{RunKind, classify_run};
 use crate::segment::{Stop, match_segment};
-use crate::skip::skip_to;
+use crate::skip::{next_place, skip_to};
 use patterns::Mode;
 use patterns::items::is_inside;
 
+// (Pattern, text and mode are passed apart in this crate: each call has other tails of the first two.)
+
 // It matches; it does not match here; nor after a run before it that stays in the component, so that only a crossing run may try again; nor after any
 // run that can stand before it.
-#[derive(Drop)]
+#[derive(Clone, Copy, Debug, PartialEq)]
 pub enum Outcome {
     Matched,
     NoMatch,
@@ -25,39 +27,27 @@ pub enum Outcome {
 }
 
 // Whether place i starts the pattern p or follows a byte `/`.
+#[tactic(auto, using(crate::proofs::MatcherLaws::follows_start, crate::proofs::MatcherLaws::follows_later))]
 fn follows_slash(p: &[u8], i: usize) -> bool
     requires { i ≤ length p.now }
     ensures { result ≡ after_at true p.now i }
 {
-    if i == 0 {
-        return true;
-    }
-    p[i - 1] == b'/'
+    i == 0 || p[i - 1] == b'/'
 }
 
-// The place after the next `/` of t from place k on; one past the text's end where there is none.
+// The place after the next `/` of t from place k on; one past the text's end where there is none, which is where the caller's loop ends.
 fn after_slash(t: &[u8], k: usize) -> usize
     requires { k ≤ length t.now }
     ensures { NextSlash t.now k result }
 {
-    let mut j = k;
-    while j < t.len() {
-        if t[j] == b'/' {
-            return j + 1;
-        }
-        j += 1;
-    }
-    j + 1
+    next_place(t, k, |x| *x == b'/') + 1
 }
 
 // The first place where a run that crosses to after a `/` may end: the start where `here`.
 fn first_place(t: &[u8], here: bool) -> usize
     ensures { FirstPlace here t.now result }
 {
-    if here {
-        return 0;
-    }
-    after_slash(t, 0)
+    if here { 0 } else { after_slash(t, 0) }
 }
 
 // The pattern p, which is the whole one or follows a byte `/`, item by item. The segment from place a of p is tried at place k of t;
@@ -102,6 +92,7 @@ pub fn match_items(p: &[u8], t: &[u8], m: Mode) -> Outcome
 }
 
 // A run that crosses to after a `/`, or takes nothing where `here`, and then the pattern p.
+// (d) The places are no range: each is found by a search from the one before, so an iterator over them would carry the same k.
 #[cycle(match_crossing_match_items)]
 fn match_crossing(p: &[u8], t: &[u8], m: Mode, here: bool) -> Outcome
     ensures { MeansRun m true (slash_then m here p.now) t.now result }

@@ -4,11 +4,11 @@ ghost use Rattle.engine.specs.inner.Outcomes.{Leads};
 ghost use Rattle.bytestrings.specs.Text.{char};
 
 use patterns::Mode;
-use patterns::runs::{run_crosses, star_count, starts_slash};
+use patterns::runs::{run_crosses, star_count};
 
 // A run within a component, of so many stars; a run that takes all that is left; or one that goes to after a `/`, with the number of bytes up
 // to what follows that slash, and whether it may take nothing.
-#[derive(Drop)]
+#[derive(Clone, Copy, Debug, PartialEq)]
 pub enum RunKind {
     Within(usize),
     All,
@@ -21,18 +21,13 @@ pub fn classify_run(p: &[u8], m: Mode, after: bool) -> RunKind
     ensures { Leads m after p.now result }
 {
     let n = star_count(p);
-    if !m.path {
-        return RunKind::Within(n);
-    }
     let rest = &p[n..];
-    if !run_crosses(after, n, rest) {
+    if !m.path || !run_crosses(after, n, rest) {
         return RunKind::Within(n);
     }
-    if rest.len() == 0 {
-        return RunKind::All;
+    match rest {
+        [] => RunKind::All,
+        [b'/', ..] => RunKind::ToSlash(n + 1, true),
+        _ => RunKind::ToSlash(n + 2, false),
     }
-    if starts_slash(rest) {
-        return RunKind::ToSlash(n + 1, true);
-    }
-    RunKind::ToSlash(n + 2, false)
 }

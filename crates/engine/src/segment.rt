@@ -6,7 +6,7 @@ use patterns::items::item_takes;
 
 // Where a segment stops: the pattern and the text end together; an item does not take the byte here, or the pattern ends first; the text
 // ends first; or a run stands at a place of the pattern, and a place of the text was reached.
-#[derive(Drop)]
+#[derive(Clone, Copy, Debug, PartialEq)]
 pub enum Stop {
     Whole,
     Mismatch,
@@ -15,6 +15,8 @@ pub enum Stop {
 }
 
 // Matches items of one byte from the front of p and t.
+// (d) Two places are counted, since the answer is both and a step in p is an item's size: slices of what is left would be measured against p and t.
+#[tactic(auto, using(crate::proofs::SegmentLaws::along_fits, crate::proofs::SegmentLaws::along_next, crate::proofs::SegmentLaws::along_run, crate::proofs::SegmentLaws::along_short, crate::proofs::SegmentLaws::along_mismatch, crate::proofs::SegmentLaws::along_whole))]
 pub fn match_segment(p: &[u8], t: &[u8], m: Mode) -> Stop
     ensures { Stops m p.now t.now result }
 {
@@ -27,15 +29,15 @@ pub fn match_segment(p: &[u8], t: &[u8], m: Mode) -> Stop
         if t.len() <= j {
             return Stop::TooShort;
         }
-        let n = item_takes(&p[i..], t[j], m);
-        if n == 0 {
+        let Some(n) = item_takes(&p[i..], t[j], m) else {
             return Stop::Mismatch;
-        }
+        };
         i += n;
         j += 1;
     }
     if j == t.len() {
-        return Stop::Whole;
+        Stop::Whole
+    } else {
+        Stop::Mismatch
     }
-    Stop::Mismatch
 }

@@ -1,12 +1,14 @@
 -- The last component, by place.
-use Prim.Native.Nat.{ℕ, zero, suc, ◌-◌, ◌<◌, ◌≤◌}
+use Prim.Native.Nat.{ℕ, zero, suc, ◌+◌, ◌-◌, ◌<◌, ◌≤◌}
 use native.Mathlib.Omega.{arith}
 use mathlib.Core.Path.{◌≡◌, refl, sym, ap, subst, ◌∙◌}
 use mathlib.Core.Bool.{Bool, true, false, ◌||◌, false≢true}
 use mathlib.Core.List.{List, [], ◌∷◌}
 use lib.Dec.{eqb}
 use lib.ListN.{length, drop, get_or, length-drop}
-use borrow.Author.Tests.{eqb-true}
+use borrow.Author.Tests.{eqb-true, ne_eqb}
+use native.Mathlib.Numerals.{add-one}
+use Rattle.std.specs.Prelude.{◌≢◌}
 use Rattle.bytestrings.specs.Text.{char}
 use Rattle.bytestrings.specs.Bytes.{has}
 use Rattle.entries.specs.Entries.{last_component, component_start}
@@ -56,14 +58,18 @@ no_slash (x ∷ s) = go (has (char "/") (x ∷ s)) refl (no_slash s)
 pub component-whole : (s : List ℕ) → last_component s ≡ drop (component_start s) s
 component-whole s = let w = no_slash s in component_at s w.0 w.1 w.2 ∙ ap (λ (n : ℕ). drop n s) (sym (start_at s w.0 w.1 w.2))
 
--- The same where the place is counted down.
-pub start-found : (s : List ℕ) (i : ℕ) → 0 < i → i ≤ length s → has (char "/") (drop i s) ≡ false → get_or s (i - 1) 0 ≡ char "/" → component_start s ≡ i
-start-found s zero p l h e = absurd (omega arith)
-start-found s (suc i) p l h e = let m : suc i - 1 ≡ i = omega arith in start_at s (suc i) h (omega arith, ap (λ (n : ℕ). get_or s n 0) (sym m) ∙ e)
+-- The same where the last `/` stands at a place, or nowhere.
+none_from : (b : ℕ) (s : List ℕ) (i : ℕ) → ((k : ℕ) → i ≤ k → k < length s → get_or s k 0 ≢ b) → has b (drop i s) ≡ false
+none_from b [] zero none = refl
+none_from b [] (suc i) none = refl
+none_from b (x ∷ s) zero none = rw (ne_eqb x b (none 0 (omega arith) (omega arith))) (none_from b s 0 (λ k l h. none (suc k) (omega arith) (omega arith)))
+none_from b (x ∷ s) (suc i) none = none_from b s i (λ k l h. none (suc k) (omega arith) (omega arith))
 
-pub start_none : (s : List ℕ) (i : ℕ) → i ≤ 0 → has (char "/") (drop i s) ≡ false → component_start s ≡ 0
-start_none s zero l h = start_at s 0 h tt
-start_none s (suc i) l h = absurd (omega arith)
+pub start_none : (s : List ℕ) → ((k : ℕ) → 0 ≤ k → k < length s → get_or s k 0 ≢ char "/") → component_start s ≡ 0
+start_none s none = start_at s 0 (none_from (char "/") s 0 none) tt
+
+pub start_after_last : (s : List ℕ) (i : ℕ) → i < length s → get_or s i 0 ≡ char "/" → ((k : ℕ) → i + 1 ≤ k → k < length s → get_or s k 0 ≢ char "/") → component_start s ≡ i + 1
+start_after_last s i h e none = rw (add-one i) (start_at s (suc i) (none_from (char "/") s (suc i) (λ k l f. none k (omega arith) f)) (h, e))
 
 -- the last component's start, as a place
 pub start-place : (s : List ℕ) → (has (char "/") (drop (component_start s) s) ≡ false) × After s (component_start s)

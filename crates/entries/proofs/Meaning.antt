@@ -4,8 +4,8 @@ use mathlib.Core.Path.{◌≡◌, refl}
 use mathlib.Core.Logic.{◌↔◌}
 use mathlib.Core.Bool.{Bool, true, false, not, cond, ◌&&◌, ◌||◌, false≢true}
 use mathlib.Core.List.{List, [], ◌∷◌, cons≢nil}
+use Rattle.std.proofs.lemmas.Bool.{and_parts}
 use Rattle.bytestrings.specs.Text.{char}
-use Rattle.bytestrings.proofs.BoolLaws.{and_split}
 use Rattle.patterns.specs.Sharing.{Matches}
 use Rattle.patterns.specs.MatchTest.{matches_test}
 use Rattle.patterns.proofs.Meaning.{test_decides}
@@ -35,7 +35,7 @@ bare_means subject p =
     let m : Mode = record { path = has (char "/") p; fold = subject.fold } in
     let t : List ℕ = cond (has (char "/") p) subject.rest subject.component in
     let d = test_decides m (without_first_slash p) t in (
-      λ e. let s = and_split (not (is_empty (without_first_slash p))) (matches_test m (without_first_slash p) t) e in (full (without_first_slash p) s.0, d.0 s.1),
+      λ e. let s = and_parts (not (is_empty (without_first_slash p))) (matches_test m (without_first_slash p) t) e in (full (without_first_slash p) s.0, d.0 s.1),
       λ h. both (filled (without_first_slash p) h.0) (d.1 h.1),
     )
 
@@ -53,6 +53,6 @@ pub pattern_means : (subject : Subject) (p : List ℕ)
 unfolding pattern_matches
 pattern_means subject p =
     let d = bare_means subject (without_last_slash p) in (
-      λ e. let s = and_split (not (last_is (char "/") p) || subject.directory) (bare_matches subject (without_last_slash p)) e in (allowed (last_is (char "/") p) subject.directory s.0, d.0 s.1),
+      λ e. let s = and_parts (not (last_is (char "/") p) || subject.directory) (bare_matches subject (without_last_slash p)) e in (allowed (last_is (char "/") p) subject.directory s.0, d.0 s.1),
       λ h. both (allows (last_is (char "/") p) subject.directory h.0) (d.1 h.1),
     )

@@ -6,12 +6,13 @@ use mathlib.Core.Bool.{Bool, true, false, cond, not, ◌&&◌, false≢true}
 use mathlib.Core.List.{List, [], ◌∷◌}
 use lib.Dec.{eqb}
 use lib.ListN.{length, get_or, take}
-use borrow.Author.Tests.{eqb-false, ne_eqb, not-true}
+use borrow.Author.Tests.{ne_eqb, not-true}
+use Rattle.std.proofs.lemmas.Bool.{false_from_ne_true}
 use Rattle.bytestrings.specs.Text.{char}
 use Rattle.bytestrings.specs.Letters.{folded}
 use Rattle.patterns.proofs.LastByteLaws.{Plain, EndsIn, EndTaken, end_taken}
 use Rattle.patterns.proofs.FirstByteLaws.{FirstTaken, first_taken}
-use Rattle.bytestrings.proofs.BoolLaws.{false_if_not, not_both}
+use Rattle.bytestrings.proofs.BoolLaws.{not_both}
 use Rattle.patterns.specs.Items.{is_literal}
 use Rattle.patterns.specs.declared.Mode.{Mode}
 use Rattle.patterns.specs.MatchTest.{matches_test}
@@ -66,7 +67,7 @@ module _ (subject : Subject) where
   module _ (c : ℕ) (plain : Plain c) where
     no_match : (path : Bool) (p t : List ℕ) → EndsIn c p → end_accepted subject.fold c t ≡ false → matches_test (record { path = path; fold = subject.fold }) p t ≡ false
     no_match path p t h e =
-        false_if_not _ (λ w. not_both (taken_end subject.fold c t (end_taken c plain (record { path = path; fold = subject.fold }) p t h w)) e)
+        false_from_ne_true _ (λ w. not_both (taken_end subject.fold c t (end_taken c plain (record { path = path; fold = subject.fold }) p t h w)) e)
 
     module _ (r : end_accepted subject.fold c subject.rest ≡ false) (n : end_accepted subject.fold c subject.component ≡ false) where
       no_text : (path : Bool) (p : List ℕ) → EndsIn c p → matches_test (record { path = path; fold = subject.fold }) p (cond path subject.rest subject.component) ≡ false
@@ -90,12 +91,11 @@ module _ (subject : Subject) where
           go true path = no_text path (y ∷ p) h
           go false path = no_text path (x ∷ y ∷ p) h
 
-  pub excludes_last : (p : List ℕ) (c : ℕ) (r : Bool) → (length p ≡ 0 → ⊥) → get_or p (length p - 1) 0 ≡ c → end_accepted subject.fold c subject.rest ≡ false
-      → end_accepted subject.fold c subject.component ≡ false
-      → (c ≡ char "*" → ⊥) → (c ≡ char "/" → ⊥) → (c ≡ char "?" → ⊥) → r ≡ not (eqb c (char "]")) → Excludes subject p r
+  pub excludes_last : (p : List ℕ) (c : ℕ) (r : Bool) → (length p ≡ 0 → ⊥) → get_or p (length p - 1) 0 ≡ c → (c ≡ char "*" → ⊥) → (c ≡ char "/" → ⊥) → (c ≡ char "?" → ⊥)
+      → (c ≡ char "]" → ⊥) → end_accepted subject.fold c subject.rest ≡ false → r ≡ not (end_accepted subject.fold c subject.component) → Excludes subject p r
   unfolding Excludes
-  excludes_last p c r l e tr tc star slash any q w =
-      excluded c (star, slash, any, eqb-false c (char "]") (not-true (eqb c (char "]")) (sym q ∙ w))) tr tc p (ends_at c p (length p - 1) (omega (arith, l)) e)
+  excludes_last p c r l e star slash any close rest component w =
+      excluded c (star, slash, any, close) rest (not-true (end_accepted subject.fold c subject.component) (sym component ∙ w)) p (ends_at c p (length p - 1) (omega (arith, l)) e)
 
 -- The first bytes.
 
@@ -123,14 +123,14 @@ module _ (fold : Bool) (t : List ℕ) where
   differs_first [] c r l e n a b d q h path = absurd (l refl)
   differs_first (x ∷ p) c r l e n a b d q h path =
       let z : is_literal x ≡ true = is_literal_lem x (λ i. a (sym e ∙ i)) (λ i. b (sym e ∙ i)) (λ i. d (sym e ∙ i)) (ap (λ (k : ℕ). not (eqb k (char "\\"))) e ∙ sym q ∙ h) in
-      false_if_not _ (λ w. not_both (begins fold c t (subst (λ (k : ℕ). FirstTaken fold k t) e (first_taken (record { path = path; fold = fold }) x p t z w))) n)
+      false_from_ne_true _ (λ w. not_both (begins fold c t (subst (λ (k : ℕ). FirstTaken fold k t) e (first_taken (record { path = path; fold = fold }) x p t z w))) n)
 
   pub differs_literal : (p : List ℕ) (a r : Bool) → (length p ≡ 0 → ⊥) → a ≡ folded fold (λ y. eqb y (get_or p 0 0)) (get_or t 0 0)
       → a ≡ false → r ≡ is_literal (get_or p 0 0) → ExcludesText fold p t r
   unfolding ExcludesText
   differs_literal [] a r l e n q h path = absurd (l refl)
   differs_literal (x ∷ p) a r l e n q h path =
-      false_if_not _ (λ w. not_both (begins_letter fold x t (first_taken (record { path = path; fold = fold }) x p t (sym q ∙ h) w)) (sym e ∙ n))
+      false_from_ne_true _ (λ w. not_both (begins_letter fold x t (first_taken (record { path = path; fold = fold }) x p t (sym q ∙ h) w)) (sym e ∙ n))
 
 -- and a pattern that is asked about anyhow
 pub text_differs : (m : Mode) (p t : List ℕ) (r : Bool) → ExcludesText m.fold p t r → r ≡ true → false ≡ matches_test m p t

@@ -1,8 +1,9 @@
 -- Document 01, "Ignore lines": an entry, and when the pattern of a line matches it. Attribute lines: "Patterns match as for ignore lines".
-use Rattle.std.specs.Prelude.{ℕ, ◌-◌, Bool, not, cond, ◌&&◌, ◌||◌, List, [], ◌∷◌, ltb, length, drop}
+use Rattle.std.specs.Prelude.{ℕ, ◌-◌, Bool, not, cond, ◌&&◌, ◌||◌, List, [], ◌∷◌, ltb, length, drop, Option, None, Some}
 use Rattle.bytestrings.specs.Bytes.{first_is, last_is, has, without_last, is_empty}
 use Rattle.bytestrings.specs.Text.{char}
 use Rattle.patterns.specs.MatchTest.{matches_test}
+use Rattle.entries.specs.declared.subject.Subject.{Subject as LentSubject}
 
 -- "An entry is the path or one of its parent directories", with whether it is a directory
 pub record Entry : Type 0 where
@@ -42,9 +43,22 @@ pub record Subject : Type 0 where
 abbrev pub against : List ℕ → List ℕ → Bool → Bool → Subject
 against rest component directory fold = record { rest = rest; component = component; directory = directory; fold = fold }
 
+-- the subject that the code passes
+abbrev pub subject_in : LentSubject → Subject
+subject_in s = against s.rest.now s.component.now s.directory s.fold
+
 -- an entry, to be matched by the lines of a file with this base: "when an entry is judged, "the path" in the matching rule above is that entry"
 unfoldable pub subject_of : Bool → ℕ → Entry → Subject
 subject_of fold base e = against (drop base e.bytes) (last_component e.bytes) e.directory fold
+
+-- an entry that the lines of a file at the top are matched against, to be matched by those of a file with this base, if that file applies
+unfoldable pub in_file : ℕ → Subject → Option Subject
+in_file base s = cond (ltb base (length s.rest)) (Some (against (drop base s.rest) s.component s.directory s.fold)) None
+
+-- the same, as the code passes it
+abbrev pub subjects_in : Option LentSubject → Option Subject
+subjects_in None = None
+subjects_in (Some s) = Some (subject_in s)
 
 -- A pattern without its last `/`. "If a `/` is left anywhere, the pattern is anchored: one first `/` goes, and it is matched in path mode
 -- against" the rest. "Otherwise it is matched without path mode against the last component." "An empty pattern matches nothing."

@@ -5,102 +5,68 @@
 ghost use Rattle.std.specs.Prelude.{◌≡◌, true};
 ghost use Rattle.patterns.specs.MatchTest.{matches_test};
 ghost use Rattle.bytestrings.specs.Bytes.{has};
-ghost use Rattle.entries.specs.Entries.{against, bare_matches, pattern_matches, component_start};
+ghost use Rattle.entries.specs.Entries.{subject_in, without_first_slash, bare_matches, pattern_matches};
 ghost use Rattle.bytestrings.specs.Text.{char};
 
 mod prefilter;
+pub mod subject;
 
 use engine::matches;
 use patterns::Mode;
 use prefilter::{first_byte_excludes, last_byte_excludes};
+pub use subject::{Subject, component_start};
 
-// Whether the pattern has a `/`.
+// Whether the pattern has a `/`. (`contains` is made for long slices: with it, questions took x1.07 of the instructions.)
 fn has_slash(pattern: &[u8]) -> bool
     ensures { result ≡ has (char "/") pattern.now }
 {
-    let mut i = 0;
-    while i < pattern.len() {
-        if pattern[i] == b'/' {
-            return true;
-        }
-        i += 1;
-    }
-    false
+    pattern.iter().any(|&b| b == b'/')
 }
 
 // Whether the pattern matches the text; the engine is asked only if the first bytes allow it.
 fn text_matches(pattern: &[u8], text: &[u8], mode: Mode) -> bool
     ensures { result ≡ matches_test mode pattern.now text.now }
 {
-    if first_byte_excludes(pattern, text, mode.fold) {
-        return false;
+    !first_byte_excludes(pattern, text, mode.fold) && matches(pattern, text, mode)
+}
+
+// The pattern without one `/` at its start.
+fn without_first_slash(pattern: &[u8]) -> &[u8]
+    ensures { result.now ≡ without_first_slash pattern.now }
+{
+    match pattern {
+        [b'/', rest @ ..] => rest,
+        _ => pattern,
     }
-    matches(pattern, text, mode)
 }
 
 // Whether a pattern whose last `/` has gone matches: one with a `/` the rest, in path mode; any other the component.
-fn bare_matches(pattern: &[u8], rest: &[u8], component: &[u8], fold: bool) -> bool
-    ensures { result ≡ bare_matches (against rest.now component.now true fold) pattern.now }
+fn bare_matches(pattern: &[u8], subject: &Subject) -> bool
+    ensures { result ≡ bare_matches (subject_in subject.now) pattern.now }
 {
-    if pattern.len() == 0 {
+    if last_byte_excludes(pattern, subject) {
         return false;
     }
-    if last_byte_excludes(pattern, rest, component, fold) {
-        return false;
-    }
-    if has_slash(pattern) {
-        let anchored = Mode {
-            path: true,
-            fold: fold,
-        };
-        if pattern[0] != b'/' {
-            return text_matches(pattern, rest, anchored);
-        }
-        if pattern.len() == 1 {
-            return false;
-        }
-        return text_matches(&pattern[1..], rest, anchored);
-    }
-    let plain = Mode {
-        path: false,
-        fold: fold,
+    let bare = without_first_slash(pattern);
+    let anchored = has_slash(pattern);
+    let text = if anchored {
+        subject.rest
+    } else {
+        subject.component
     };
-    text_matches(pattern, component, plain)
+    let mode = Mode {
+        path: anchored,
+        fold: subject.fold,
+    };
+    !bare.is_empty() && text_matches(bare, text, mode)
 }
 
-// Whether the pattern of a line matches an entry: the rest is the entry from the base on, the component its last one.
-pub fn pattern_matches(
-    pattern: &[u8],
-    rest: &[u8],
-    component: &[u8],
-    directory: bool,
-    fold: bool,
-) -> bool
-    ensures { result ≡ pattern_matches (against rest.now component.now directory fold) pattern.now }
+// Whether the pattern of a line matches the subject.
+pub fn pattern_matches(pattern: &[u8], subject: &Subject) -> bool
+    ensures { result ≡ pattern_matches (subject_in subject.now) pattern.now }
 {
-    let n = pattern.len();
-    if n == 0 {
-        return false;
+    match pattern {
+        [bare @ .., b'/'] => subject.directory && bare_matches(bare, subject),
+        _ => bare_matches(pattern, subject),
     }
-    if pattern[n - 1] != b'/' {
-        return bare_matches(pattern, rest, component, fold);
-    }
-    if directory {
-        return bare_matches(&pattern[..n - 1], rest, component, fold);
-    }
-    false
-}
-
-// Where the last component of an entry starts.
-pub fn component_start(entry: &[u8]) -> usize
-    ensures { result ≡ component_start entry.now }
-{
-    let mut i = entry.len();
-    while 0 < i {
-        if entry[i - 1] == b'/' {
-            return i;
-        }
-        i -= 1;
-    }
-    0
 }

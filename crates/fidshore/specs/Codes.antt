@@ -1,14 +1,15 @@
 -- The C interface. Document 01, "How rule files are lent": what the C loader gets from each call, as one number. Which number each answer has: wildmatch
 -- Answers.code_of, answers Complete.
-use Rattle.std.specs.Prelude.{ℕ, ◌≡◌, List, [], ◌∷◌, length}
+use Rattle.std.specs.Prelude.{ℕ, ◌≡◌, List, [], ◌∷◌, Result, length}
 use Rattle.wildmatch.specs.Answers.{Answered, code_of}
 use Rattle.wildmatch.specs.declared.Answer.{Answer}
+use Rattle.refusals.specs.declared.refusal.Refusal.{Refusal}
 use Rattle.answers.specs.Complete.{Complete}
 use Rattle.questions.specs.Answers.{IgnoreAnswered, AttributeAnswered}
 
 -- the code of the matcher's answer
 pub record MatchCode (pattern text : List ℕ) (flags code : ℕ) : Type 0 where
-  pub answer : Answer
+  pub answer : Result Answer Refusal
   pub answered : Answered pattern text flags answer
   pub coded : code ≡ code_of answer
 

@@ -6,6 +6,7 @@ ghost use Rattle.fidshore.specs.Codes.{MatchCode, IgnoreCode, AttributeCode};
 use answers::{attribute_code, ignore_code};
 use questions::attribute::attribute;
 use questions::ignore::ignore;
+use rulefiles::RuleFiles;
 use wildmatch::{code_of, wildmatch};
 
 // The matcher: 0 no match, 1 match, 2 a broken pattern, or 16 plus a refusal's number. Flags: 1 = path mode, 2 = fold case.
@@ -24,7 +25,12 @@ pub extern "C" fn fidshore_ignore(rules: &[u8], path: &[u8], flags: u64) -> u32
 {
     let ends = [rules.len()];
     let bases = [0usize];
-    ignore_code(ignore(path, rules, &ends, &bases, flags))
+    let file = RuleFiles {
+        rules,
+        ends: &ends,
+        bases: &bases,
+    };
+    ignore_code(ignore(path, &file, flags))
 }
 
 // The attribute question over one file of base 0: 0 nothing said, 1 set, 2 unset, 3 value, 4 unspecified by a line, or 16 plus a refusal's
@@ -35,5 +41,10 @@ pub extern "C" fn fidshore_attribute(rules: &[u8], path: &[u8], name: &[u8], fla
 {
     let ends = [rules.len()];
     let bases = [0usize];
-    attribute_code(attribute(path, rules, &ends, &bases, name, flags))
+    let one = RuleFiles {
+        rules,
+        ends: &ends,
+        bases: &bases,
+    };
+    attribute_code(attribute(path, &one, name, flags))
 }

@@ -2,41 +2,45 @@
 use Prim.Native.Nat.{ℕ, zero, suc, ◌+◌, ◌-◌, ◌<◌, ◌≤◌}
 use native.Mathlib.Omega.{arith}
 use mathlib.Core.Path.{◌≡◌, refl, sym, ap, ◌∙◌}
-use mathlib.Core.Bool.{Bool, true, false, cond}
+use mathlib.Core.Bool.{Bool, true, false, not, cond, ◌&&◌}
 use mathlib.Core.List.{List, [], ◌∷◌}
-use mathlib.Core.Option.{none, some}
+use Rattle.std.specs.Prelude.{Option, None, Some}
+use Rattle.std.specs.Bool.{then_some}
 use lib.Dec.{eqb}
 use lib.ListN.{length, take, drop, get_or, drop_of_length-le}
 use borrow.Author.Tests.{eq-eqb, ne_eqb, eqb-true}
 use Rattle.bytestrings.specs.Text.{char, carriage_return}
 use Rattle.bytestrings.proofs.SliceLaws.{from, from-drop, next}
 use Rattle.bytestrings.proofs.OrderLaws.{one_after}
-use Rattle.entries.specs.Entries.{pattern_matches, Subject}
+use Rattle.entries.specs.Entries.{bare_matches, pattern_matches, Subject}
 use Rattle.bytestrings.proofs.ByteLaws.{ends_last, without_last_lem}
-use Rattle.entries.proofs.PatternLaws.{texts_empty}
-use Rattle.ignorelines.specs.IgnoreLines.{ignored, re_included, without_cr, skipped, space_before, kept, stripped, negated, without_not, rule_effect, line_effect, verdict_of}
-use Rattle.ignorelines.specs.inner.Scan.{escapes_next, kept_after}
-use Rattle.ignorelines.specs.declared.Effect.{Effect}
+use Rattle.ignorelines.specs.declared.Verdict.{Verdict}
+use Rattle.ignorelines.specs.declared.Verdict.TheVariants.{Ignored, Reincluded}
+use Rattle.ignorelines.specs.IgnoreLines.{without_cr, skipped, space_before, kept, stripped, negated, without_not, rule_effect, line_effect}
 
 -- the CR
-pub cr_empty : (l : List ℕ) → length l ≡ 0 → l ≡ without_cr l
-unfolding without_cr
-cr_empty [] h = refl
-cr_empty (x ∷ l) h = absurd (omega arith)
-
 pub cr_dropped : (l : List ℕ) → (length l ≡ 0 → ⊥) → get_or l (length l - 1) 0 ≡ carriage_return → take (length l - 1) l ≡ without_cr l
 unfolding without_cr
 cr_dropped l n e =
     rw (ends_last carriage_return l (length l - 1) (one_after (length l) n) ∙ eq-eqb (get_or l (length l - 1) 0) carriage_return e) (sym (without_last_lem l (length l - 1) (one_after (length l) n)))
 
-pub cr_none : (l : List ℕ) → (length l ≡ 0 → ⊥) → (get_or l (length l - 1) 0 ≡ carriage_return → ⊥) → l ≡ without_cr l
+pub cr_none : (l : List ℕ) → (1 ≤ length l → get_or l (length l - 1) 0 ≡ carriage_return → ⊥) → l ≡ without_cr l
 unfolding without_cr
-cr_none l n e = rw (ends_last carriage_return l (length l - 1) (one_after (length l) n) ∙ ne_eqb (get_or l (length l - 1) 0) carriage_return e)
+cr_none [] e = refl
+cr_none (x ∷ l) e = rw (ends_last carriage_return (x ∷ l) (length (x ∷ l) - 1) (omega arith) ∙ ne_eqb (get_or (x ∷ l) (length (x ∷ l) - 1) 0) carriage_return (e (omega arith)))
 
 -- trailing spaces: what stays where n bytes stay from place i on, and `keep` before it
 abbrev pub reach : ℕ → ℕ → ℕ → ℕ
 reach keep i zero = keep
 reach keep i (suc n) = i + suc n
+
+-- the byte after b is escaped; `escaped`: b is
+abbrev pub escapes_next : ℕ → Bool → Bool
+escapes_next b escaped = not escaped && eqb b (char "\\")
+
+-- how many bytes are known to stay after byte b, which stands before the place `next`; `keep` before it
+abbrev pub kept_after : ℕ → ℕ → ℕ → Bool → ℕ
+kept_after keep next b escaped = cond (not escaped && eqb b (char " ")) keep next
 
 reach_keeps : (keep i n : ℕ) → reach keep i (suc n) ≡ reach (i + 1) (i + 1) n
 reach_keeps keep i zero = refl
@@ -47,7 +51,7 @@ reach_space keep i zero = refl
 reach_space keep i (suc n) = omega arith
 
 kept-without_last : (b : ℕ) (s : List ℕ) (keep i : ℕ) (escaped : Bool) → reach keep i (kept escaped (b ∷ s)) ≡ reach (kept_after keep (i + 1) b escaped) (i + 1) (kept (escapes_next b escaped) s)
-unfolding kept kept_after escapes_next
+unfolding kept
 kept-without_last b s keep i true = reach_keeps keep i (kept false s)
 kept-without_last b s keep i false = go (eqb b (char "\\")) (eqb b (char " ")) (λ e. ap (λ (x : ℕ). eqb x (char " ")) (eqb-true b (char "\\") e))
   where
@@ -91,13 +95,10 @@ kept_last false (x ∷ y ∷ s) (suc n) h e = go (eqb x (char "\\")) (eqb x (cha
     go false true a b = ap space_before b
     go false false a b = ap suc b
 
-pub kept_all : (s : List ℕ) → (length s ≡ 0 → ⊥) → (get_or s (length s - 1) 0 ≡ char " " → ⊥) → length s ≡ kept false s
-kept_all s n e = one_after (length s) n ∙ sym (kept_last false s (length s - 1) (one_after (length s) n) e)
-
-pub kept_empty : (s : List ℕ) → length s ≡ 0 → 0 ≡ kept false s
+pub kept_all : (s : List ℕ) → (1 ≤ length s → get_or s (length s - 1) 0 ≡ char " " → ⊥) → length s ≡ kept false s
 unfolding kept
-kept_empty [] h = refl
-kept_empty (x ∷ s) h = absurd (omega arith)
+kept_all [] e = refl
+kept_all (x ∷ s) e = let m : length (x ∷ s) - 1 ≡ length s = omega arith in sym (kept_last false (x ∷ s) (length s) refl (λ h. e (omega arith) (rw m h)))
 
 -- no more bytes stay than there are
 pub kept_fits : (escaped : Bool) (s : List ℕ) → kept escaped s ≤ length s
@@ -115,45 +116,41 @@ kept_fits false (x ∷ s) = go (eqb x (char "\\")) (eqb x (char " ")) (kept_fits
     go false true a b = space (kept false s) b
     go false false a b = omega arith
 
-pub start_fits : (b : Bool) (start n : ℕ) → start ≡ cond b 1 0 → (n ≡ 0 → ⊥) → start ≤ n
-start_fits true start n e h = omega arith
-start_fits false start n e h = omega arith
-
--- the pattern from place `start` on: after the `!`, or all
-pub rule_start : (l : List ℕ) (start : ℕ) (b : Bool) → (length l ≡ 0 → ⊥) → b ≡ eqb (get_or l 0 0) (char "!") → start ≡ cond b 1 0 → (negated l ≡ b) × (from start l ≡ without_not l)
-unfolding negated without_not
-rule_start [] start b n e h = absurd (n refl)
-rule_start (x ∷ l) start b n e h = (sym e, from-drop start (x ∷ l) ∙ rw (h, sym e) (go b))
-  where
-    go : (c : Bool) → drop (cond c 1 0) (x ∷ l) ≡ cond c l (x ∷ l)
-    go true = refl
-    go false = refl
-
 -- the effect of a stripped line, by its first byte
 module _ (subject : Subject) where
-  pub rule_empty : (l : List ℕ) → length l ≡ 0 → none ≡ rule_effect subject l
-  unfolding rule_effect without_not
-  rule_empty [] h = rw (texts_empty subject [] refl)
-  rule_empty (x ∷ l) h = absurd (omega arith)
+  said : {A : Type 0} (b : Bool) (v : A) → then_some b v ≡ cond b (Some v) None
+  said true v = refl
+  said false v = refl
 
-  pub rule_matched : (l : List ℕ) (start : ℕ) (b r : Bool) (w : Effect) → (negated l ≡ b) × (from start l ≡ without_not l) → r ≡ pattern_matches subject (from start l)
-      → verdict_of w ≡ cond r (some (cond b re_included ignored)) none → verdict_of w ≡ rule_effect subject l
-  unfolding rule_effect
-  rule_matched l start b r w p e h = h ∙ rw (e ∙ ap (pattern_matches subject) p.1, p.0)
+  pub rule_negated : (l : List ℕ) → 1 ≤ length l → get_or l 0 0 ≡ char "!" → then_some (pattern_matches subject (from 1 l)) Reincluded ≡ rule_effect subject l
+  unfolding rule_effect negated without_not
+  rule_negated [] h e = absurd (omega arith)
+  rule_negated (x ∷ l) h e = rw (eq-eqb x (char "!") e, from-drop 1 (x ∷ l)) (said (pattern_matches subject l) Reincluded)
+
+  pub rule_plain : (l : List ℕ) → (1 ≤ length l → get_or l 0 0 ≡ char "!" → ⊥) → then_some (pattern_matches subject l) Ignored ≡ rule_effect subject l
+  unfolding rule_effect negated without_not
+  rule_plain [] e = said (pattern_matches subject []) Ignored
+  rule_plain (x ∷ l) e = rw (ne_eqb x (char "!") (e (omega arith))) (said (pattern_matches subject (x ∷ l)) Ignored)
 
   -- a line that is skipped, or goes on to its rule
-  pub bytes_empty : (l c : List ℕ) → c ≡ without_cr l → length c ≡ 0 → none ≡ line_effect subject l
+  pub line_empty : (l c : List ℕ) → c ≡ without_cr l → length c < 1 → None ≡ line_effect subject l
   unfolding line_effect skipped
-  bytes_empty l [] e h = rw (sym e)
-  bytes_empty l (x ∷ c) e h = absurd (omega arith)
+  line_empty l [] e h = rw (sym e)
+  line_empty l (x ∷ c) e h = absurd (omega arith)
 
-  pub bytes_comment : (l c : List ℕ) → c ≡ without_cr l → (length c ≡ 0 → ⊥) → get_or c 0 0 ≡ char "#" → none ≡ line_effect subject l
+  pub line_comment : (l c : List ℕ) → c ≡ without_cr l → 1 ≤ length c → get_or c 0 0 ≡ char "#" → None ≡ line_effect subject l
   unfolding line_effect skipped
-  bytes_comment l [] e n h = absurd (n refl)
-  bytes_comment l (x ∷ c) e n h = rw (sym e, eq-eqb x (char "#") h)
+  line_comment l [] e n h = absurd (omega arith)
+  line_comment l (x ∷ c) e n h = rw (sym e, eq-eqb x (char "#") h)
 
-  pub bytes_rule : (l c : List ℕ) (n : ℕ) (w : Effect) → c ≡ without_cr l → (length c ≡ 0 → ⊥) → (get_or c 0 0 ≡ char "#" → ⊥) → n ≡ kept false c → verdict_of w ≡ rule_effect subject (take n c)
-      → verdict_of w ≡ line_effect subject l
+  pub line_rule : (l c : List ℕ) (n : ℕ) (w : Option Verdict) → c ≡ without_cr l → 1 ≤ length c → (get_or c 0 0 ≡ char "#" → ⊥) → n ≡ kept false c → w ≡ rule_effect subject (take n c)
+      → w ≡ line_effect subject l
   unfolding line_effect skipped stripped
-  bytes_rule l [] n w e p h k v = absurd (p refl)
-  bytes_rule l (x ∷ c) n w e p h k v = rw (sym e, ne_eqb x (char "#") h, sym k) v
+  line_rule l [] n w e p h k v = absurd (omega arith)
+  line_rule l (x ∷ c) n w e p h k v = rw (sym e, ne_eqb x (char "#") h, sym k) v
+
+-- an empty rule says nothing
+pub rule_empty : (subject : Subject) (l : List ℕ) → length l ≡ 0 → None ≡ rule_effect subject l
+unfolding rule_effect without_not pattern_matches bare_matches
+rule_empty subject [] h = refl
+rule_empty subject (x ∷ l) h = absurd (omega (arith, h))

@@ -1,17 +1,12 @@
 -- Document 01, "Ignore lines": the effect of one line on one entry.
-use Rattle.std.specs.Prelude.{ℕ, zero, suc, Bool, true, false, cond, ◌||◌, List, [], ◌∷◌, eqb, take, drop}
-use Rattle.std.proofs.Math.Option.{Option, none, some}
+use Rattle.std.specs.Prelude.{ℕ, zero, suc, Bool, true, false, cond, ◌||◌, List, [], ◌∷◌, eqb, take, drop, Option, None, Some}
 use Rattle.bytestrings.specs.Text.{char, carriage_return}
 use Rattle.rulefiles.specs.RuleFiles.{Line}
 use Rattle.entries.specs.Entries.{Entry, applies, Subject, subject_of, pattern_matches}
 use Rattle.bytestrings.specs.Bytes.{first_is, last_is, without_last, is_empty}
-use Rattle.ignorelines.specs.declared.Effect.{Effect}
-use Rattle.ignorelines.specs.declared.Effect.TheVariants.{None, Ignores, Reincludes}
-
 -- an entry's verdict where a line decides it: "ignored or, negated, re-included". Where none does, it is undecided: "else nothing said"
-pub data Verdict : Type 0 where
-  ignored : Verdict
-  re_included : Verdict
+use Rattle.ignorelines.specs.declared.Verdict.{Verdict}
+use Rattle.ignorelines.specs.declared.Verdict.TheVariants.{Ignored, Reincluded}
 
 -- "drop one CR at a line's end, the last line's too"
 unfoldable pub without_cr : List ℕ → List ℕ
@@ -46,18 +41,12 @@ without_not l = cond (first_is (char "!") l) (drop 1 l) l
 
 -- the effect of a line that is not skipped and has been stripped: its pattern matches the entry, or there is none
 unfoldable pub rule_effect : Subject → List ℕ → Option Verdict
-rule_effect subject l = cond (pattern_matches subject (without_not l)) (some (cond (negated l) re_included ignored)) none
+rule_effect subject l = cond (pattern_matches subject (without_not l)) (Some (cond (negated l) Reincluded Ignored)) None
 
 -- the effect of a line's bytes
 unfoldable pub line_effect : Subject → List ℕ → Option Verdict
-line_effect subject bytes = cond (skipped (without_cr bytes)) none (rule_effect subject (stripped (without_cr bytes)))
+line_effect subject bytes = cond (skipped (without_cr bytes)) None (rule_effect subject (stripped (without_cr bytes)))
 
 -- the effect of a line on an entry, if its file applies
 unfoldable pub ignore_effect : Bool → Entry → Line → Option Verdict
-ignore_effect fold e l = cond (applies l.base e) (line_effect (subject_of fold l.base e) l.bytes) none
-
--- the effect that the code's answer stands for
-abbrev pub verdict_of : Effect → Option Verdict
-verdict_of None = none
-verdict_of Ignores = some ignored
-verdict_of Reincludes = some re_included
+ignore_effect fold e l = cond (applies l.base e) (line_effect (subject_of fold l.base e) l.bytes) None

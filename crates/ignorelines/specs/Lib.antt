@@ -1,4 +1,2 @@
--- What a reader must believe, each file before those that use it:
+-- What a reader must believe:
 pub mod IgnoreLines
--- Inner definitions, none of which a public contract cites:
-pub mod inner

@@ -2,10 +2,11 @@
 use mathlib.Core.Path.{◌≡◌, refl, sym, ap, ◌∙◌}
 use mathlib.Core.Bool.{true}
 use mathlib.Core.List.{List, [], ◌∷◌, ◌++◌}
-use mathlib.Core.Option.{Option, none, some}
+use Rattle.std.specs.Prelude.{Option, None, Some}
 use Prim.Native.Nat.{ℕ}
 use Rattle.rulefiles.specs.RuleFiles.{Line}
-use Rattle.rulefiles.specs.Decisions.{Decision, decision_by, override, last_decision, HasEffect, Decides}
+use Rattle.rulefiles.specs.declared.Decision.{Decision}
+use Rattle.rulefiles.specs.Decisions.{decision_by, override, last_decision, HasEffect, Decides}
 use Rattle.rulefiles.proofs.DecisionMeaning.{last_none}
 use Rattle.rulefiles.proofs.DecisionLaws.{override_none}
 use Rattle.layers.specs.Blanking.{Choice}
@@ -54,11 +55,11 @@ module _ {A : Type 0} (effect : Line → Option A) where
   overridden l ls h = go (effect l) (last_decision effect ls) refl refl
     where
       go : (w : Option A) (r : Option (Decision A)) → effect l ≡ w → last_decision effect ls ≡ r → override (decision_by l w) r ≡ r
-      go w (some d) e f = refl
-      go none none e f = refl
-      go (some a) none e f = absurd (h (record { earlier = []; later = ls; stands = refl; has_effect = (a, e); none_later = last_none effect ls f }))
+      go w (Some d) e f = refl
+      go None None e f = refl
+      go (Some a) None e f = absurd (h (record { earlier = []; later = ls; stands = refl; has_effect = (a, e); none_later = last_none effect ls f }))
 
-  pub kept-answer : {chosen : Choice} {ls ms : List Line} → ((m : Line) (s : List ℕ) → m.bytes ≡ spaces s → effect m ≡ none) → Alike chosen ls ms
+  pub kept-answer : {chosen : Choice} {ls ms : List Line} → ((m : Line) (s : List ℕ) → m.bytes ≡ spaces s → effect m ≡ None) → Alike chosen ls ms
       → ((l : Line) → Decides effect ls l → chosen.line l.file l.number ≡ true → ⊥) → last_decision effect ms ≡ last_decision effect ls
   kept-answer no-effect alike_nil none-decides = refl
   kept-answer no-effect (alike_same {l = l} {m = m} {ls = ls} {ms = ms} e a) none-decides =

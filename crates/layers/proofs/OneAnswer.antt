@@ -3,10 +3,8 @@ use Prim.Native.Nat.{ℕ}
 use mathlib.Core.Path.{◌≡◌}
 use mathlib.Core.List.{List}
 use Rattle.questionrefusals.specs.Conditions.{IgnoreRefuses, AttributeRefuses}
-use Rattle.answers.specs.Complete.{complete_ignore, complete_attribute}
+use Rattle.answers.specs.Complete.{IgnoreAnswer, AttributeAnswer, complete_ignore, complete_attribute}
 use Rattle.questions.specs.Answers.{ignore_answer, attribute_answer, IgnoreAnswered, AttributeAnswered}
-use Rattle.answers.specs.declared.IgnoreAnswer.{IgnoreAnswer}
-use Rattle.answers.specs.declared.AttributeAnswer.{AttributeAnswer}
 use Rattle.answers.proofs.CompleteLaws.{one_complete, ignore_once, attribute_once}
 
 pub one_ignore_answer : (path rules ends bases : List ℕ) (flags : ℕ) (a b : IgnoreAnswer)

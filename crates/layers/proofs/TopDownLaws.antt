@@ -2,10 +2,10 @@
 use mathlib.Core.Path.{◌≡◌, refl}
 use mathlib.Core.Bool.{Bool, true, false, cond}
 use mathlib.Core.List.{List, [], ◌∷◌, Memᴰ}
-use mathlib.Core.Option.{Option}
-use Rattle.rulefiles.specs.Decisions.{Decision}
+use Rattle.std.specs.Prelude.{Option}
+use Rattle.rulefiles.specs.declared.Decision.{Decision}
 use Rattle.entries.specs.Entries.{Entry}
-use Rattle.ignorelines.specs.IgnoreLines.{Verdict}
+use Rattle.ignorelines.specs.declared.Verdict.{Verdict}
 use Rattle.answers.specs.Complete.{Complete}
 use Rattle.verdicts.specs.Verdicts.{ignores, top_down, visited}
 

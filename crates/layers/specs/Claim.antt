@@ -1,15 +1,16 @@
 -- Demand 3, as one claim over both questions, every cut and every choice of overwritten lines. What the calls answer is what their contracts allow
 -- (`IgnoreAnswered`, `AttributeAnswered`): the functions `ignore` and `attribute` of `questions` are proved to give such a complete answer, and
 -- proofs/OneAnswer.antt that there is only one.
-use Rattle.std.specs.Prelude.{ℕ, ◌≡◌, Bool, true}
+use Rattle.std.specs.Prelude.{ℕ, ◌≡◌, Bool, true, Option}
 use mathlib.Core.List.{List, Memᴰ}
-use Rattle.std.proofs.Math.Option.{Option}
 use Rattle.rulefiles.specs.RuleFiles.{Line, ordered_lines}
-use Rattle.rulefiles.specs.Decisions.{Decision, override, Decides}
+use Rattle.rulefiles.specs.declared.Decision.{Decision}
+use Rattle.rulefiles.specs.Decisions.{override, Decides}
 use Rattle.refusals.specs.Refusals.{Accepted}
 use Rattle.questionrefusals.specs.Conditions.{IgnoreRefuses, AttributeRefuses}
 use Rattle.entries.specs.Entries.{Entry}
-use Rattle.ignorelines.specs.IgnoreLines.{Verdict, ignore_effect}
+use Rattle.ignorelines.specs.declared.Verdict.{Verdict}
+use Rattle.ignorelines.specs.IgnoreLines.{ignore_effect}
 use Rattle.attributelines.specs.AttributeLines.{attribute_effect}
 use Rattle.attributelines.specs.declared.State.{State}
 use Rattle.answers.specs.Complete.{Complete}

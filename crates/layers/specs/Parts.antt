@@ -1,9 +1,9 @@
 -- Document 01, "The words of demand 3": parts of the ordered lines, and how the answers of two parts join.
-use Rattle.std.specs.Prelude.{◌≡◌}
+use Rattle.std.specs.Prelude.{◌≡◌, Option}
 use mathlib.Core.List.{List, [], ◌++◌, Memᴰ}
-use Rattle.std.proofs.Math.Option.{Option}
 use Rattle.rulefiles.specs.RuleFiles.{Line}
-use Rattle.rulefiles.specs.Decisions.{Decision, HasEffect, override, last_decision}
+use Rattle.rulefiles.specs.declared.Decision.{Decision}
+use Rattle.rulefiles.specs.Decisions.{HasEffect, override, last_decision}
 
 -- "Cut the ordered lines at any place, the ends included, into an earlier and a later part, as read and each line keeping its file, number and
 -- directory": the lines are not read again

@@ -1,32 +1,30 @@
--- A directory and a path, byte for byte.
-use mathlib.Core.Path.{◌≡◌}
-use mathlib.Core.Bool.{true, false}
-use mathlib.Core.List.{List}
-use Prim.Native.Nat.{ℕ, ◌+◌, ◌<◌, ◌≤◌}
-use borrow.Author.Tests.{eq-eqb, ne_eqb}
-use lib.ListN.{length, get_or, drop, drop_of_length-le}
-use Rattle.bytestrings.proofs.SliceLaws.{next}
+-- A directory is the front of a path, and more follows.
+use mathlib.Core.Path.{◌≡◌, refl, sym, ap, ◌∙◌}
+use mathlib.Core.Bool.{Bool, false, ◌&&◌, and-false}
+use mathlib.Core.List.{List, [], ◌∷◌}
+use Prim.Native.Nat.{ℕ, ◌<◌, ◌≤◌}
+use native.Mathlib.Omega.{arith}
+use lib.Dec.{eqb, ltb}
+use lib.ListN.{length}
+use borrow.Author.Tests.{le-ltb}
+use Rattle.std.specs.List.{starts_with}
 use Rattle.lending.specs.Lending.{above}
 
-module _ (d p : List ℕ) (i : ℕ) where
-  -- the path ends within the directory
-  pub above_short : i < length d → length p ≤ i → above (drop i d) (drop i p) ≡ false
-  unfolding above
-  above_short h e = rw (next d i h, drop_of_length-le p {i = i} e)
+-- where the path is longer, the test of its front decides
+pub above_longer : (d p : List ℕ) → length d < length p → starts_with eqb p d ≡ above d p
+unfolding above
+above_longer [] [] h = absurd (omega arith)
+above_longer [] (y ∷ p) h = refl
+above_longer (x ∷ d) [] h = absurd (omega arith)
+above_longer (x ∷ d) (y ∷ p) h = ap (λ (t : Bool). eqb x y && t) (above_longer d p (omega arith))
 
-  pub above_next : i < length d → i < length p → get_or d i 0 ≡ get_or p i 0 → above (drop i d) (drop i p) ≡ above (drop (i + 1) d) (drop (i + 1) p)
-  unfolding above
-  above_next h k e = rw (next d i h, next p i k, eq-eqb (get_or d i 0) (get_or p i 0) e)
+-- where it is not, the directory does not stand above it
+not_above : (d p : List ℕ) → length p ≤ length d → above d p ≡ false
+unfolding above
+not_above [] [] h = refl
+not_above [] (y ∷ p) h = absurd (omega arith)
+not_above (x ∷ d) [] h = refl
+not_above (x ∷ d) (y ∷ p) h = rw (not_above d p (omega arith)) (and-false (eqb x y))
 
-  pub above_differs : i < length d → i < length p → (get_or d i 0 ≡ get_or p i 0 → ⊥) → above (drop i d) (drop i p) ≡ false
-  unfolding above
-  above_differs h k e = rw (next d i h, next p i k, ne_eqb (get_or d i 0) (get_or p i 0) e)
-
-  -- the directory is the front of the path: whether more follows
-  pub above_more : length d ≤ i → i < length p → above (drop i d) (drop i p) ≡ true
-  unfolding above
-  above_more h k = rw (drop_of_length-le d {i = i} h, next p i k)
-
-  pub above_all : length d ≤ i → length p ≤ i → above (drop i d) (drop i p) ≡ false
-  unfolding above
-  above_all h k = rw (drop_of_length-le d {i = i} h, drop_of_length-le p {i = i} k)
+pub above_no_longer : (d p : List ℕ) → length p ≤ length d → ltb (length d) (length p) ≡ above d p
+above_no_longer d p h = le-ltb _ _ h ∙ sym (not_above d p h)

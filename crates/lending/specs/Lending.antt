@@ -1,11 +1,11 @@
 -- Document 01, "lending for each path only the files above it": the lists that are lent for a path, out of rule files that each stand in a directory.
 -- It serves the command-line program and is no call of the base: it writes its lists into four buffers. What these hold behind the lists, and where
 -- there is no room for them, is left free.
-use Rattle.std.specs.Prelude.{ℕ, ◌+◌, ◌≤◌, ◌<◌, ◌≡◌, Bool, true, false, cond, ◌&&◌, ◌⊎◌, List, [], ◌∷◌, ◌++◌, eqb, length, take}
+use Rattle.std.specs.Prelude.{ℕ, ◌+◌, ◌≤◌, ◌<◌, ◌≡◌, Bool, true, false, cond, ◌&&◌, ◌⊎◌, List, [], ◌∷◌, ◌++◌, eqb, length, take, Result, Ok, Err}
 use Rattle.rulefiles.specs.RuleFiles.{bytes_between}
 use Rattle.lending.specs.declared.Lent.{Lent}
-use Rattle.lending.specs.declared.Lending.{Lending}
-use Rattle.lending.specs.declared.Lending.TheVariants.{Done, Full}
+use Rattle.lending.specs.declared.Full.{Full}
+use Rattle.lending.specs.declared.Buffers.{Buffers}
 
 -- byte strings that lie end to end, from a start on, by their ends
 abbrev pub parts_from : ℕ → List ℕ → List ℕ → List (List ℕ)
@@ -67,6 +67,13 @@ NoRoom l rules ends bases numbers =
     (length rules < length l.rules) ⊎ ((length ends < length l.ends) ⊎ ((length bases < length l.bases) ⊎ (length numbers < length l.numbers)))
 
 -- what lending these lists answers: that they stand at the front of the buffers, or that there is no room for them
-abbrev pub Lends : Lists → Lending → List ℕ → List ℕ → List ℕ → List ℕ → Type 0
-Lends l (Done lent) rules ends bases numbers = Holds l lent rules ends bases numbers
-Lends l Full rules ends bases numbers = NoRoom l rules ends bases numbers
+abbrev pub Lends : Lists → Result Lent Full → Buffers → Type 0
+Lends l (Ok lent) b = Holds l lent b.rules.now b.ends.now b.bases.now b.numbers.now
+Lends l (Err full) b = NoRoom l b.rules.now b.ends.now b.bases.now b.numbers.now
+
+-- the buffers are still the caller's four, and as long
+pub record SameBuffers (old new : Buffers) : Type 0 where
+  pub rules : (new.rules.ghost_name ≡ old.rules.ghost_name) × (length new.rules.now ≡ length old.rules.now)
+  pub ends : (new.ends.ghost_name ≡ old.ends.ghost_name) × (length new.ends.now ≡ length old.ends.now)
+  pub bases : (new.bases.ghost_name ≡ old.bases.ghost_name) × (length new.bases.now ≡ length old.bases.now)
+  pub numbers : (new.numbers.ghost_name ≡ old.numbers.ghost_name) × (length new.numbers.now ≡ length old.numbers.now)

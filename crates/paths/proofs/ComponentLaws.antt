@@ -1,23 +1,41 @@
 -- A path has an empty, `.` or `..` component exactly where the scan finds one, and an empty one exactly where a `/` is misplaced.
 use mathlib.Core.Path.{◌≡◌, refl, sym, ap, subst, ◌∙◌}
-use mathlib.Core.Logic.{◌⊎◌, inl, inr, ⊎_elim}
-use mathlib.Core.Bool.{true, false, ◌&&◌, or-true, false≢true}
+use mathlib.Core.Logic.{◌⊎◌, inl, inr, ⊎_elim, ◌↔◌}
+use mathlib.Core.Bool.{Bool, true, false, cond, ◌||◌, ◌&&◌, or-true, false≢true}
 use mathlib.Core.List.{List, [], ◌∷◌, ◌++◌, append-nil, append_assoc}
-use Prim.Native.Nat.{ℕ, ◌≤◌}
+use Prim.Native.Nat.{ℕ, suc, ◌+◌, ◌<◌, ◌≤◌}
 use native.Mathlib.Omega.{arith}
-use lib.Dec.{eqb}
-use lib.ListN.{length}
-use borrow.Author.Tests.{eqb-true}
+use lib.Dec.{eqb, leb}
+use lib.ListN.{length, drop}
+use borrow.Author.Tests.{eqb-true, leb-true}
+use Rattle.std.proofs.lemmas.Bool.{or_cases, and_parts}
 use Rattle.bytestrings.specs.Text.{char, text}
 use Rattle.refusals.specs.Limits.{path_limit}
 use Rattle.refusals.specs.Refusals.{HoldsZero}
-use Rattle.paths.specs.Paths.{SlashMisplaced, Starts, Ends, Component, DotComponent, HoldsControl, BadPath}
+use Rattle.paths.specs.Paths.{SlashMisplaced, Starts, Ends, Component, DotComponent, ControlByte, HoldsControl, BadPath}
 use Rattle.paths.specs.inner.Scans.{ends_here, dots_here, bad_here, bad_later}
-use Rattle.bytestrings.proofs.BoolLaws.{or_cases, and_split}
-use Rattle.paths.proofs.ScanLaws.{dots_end}
+use Rattle.std.specs.Char.{is_ascii_control}
+use Rattle.std.specs.List.{list_any}
+use Rattle.std.specs.Prelude.{Option, Some, None, position}
+use Rattle.std.proofs.lemmas.List.Quantifiers.{position-Some}
+use Rattle.bytestrings.proofs.SliceLaws.{from, from-drop}
+use Rattle.bytestrings.proofs.UntilLaws.{until_position, until_no_position}
+use Rattle.bytestrings.specs.Bytes.{length_until}
+use native.Mathlib.Numerals.{add-one}
+use Rattle.bytestrings.proofs.AnyLaws.{any_found}
+use Rattle.bytestrings.proofs.BoolLaws.{yes_iff, no_iff, not_if_false}
+
+-- a byte that the test takes is a control byte
+control_test : (b : ℕ) → (is_ascii_control b ≡ true) ↔ ControlByte b
+control_test b = (
+  λ e. ⊎_elim (λ h. inl (omega (arith, leb-true b 31 (and_parts (leb 0 b) (leb b 31) h).1)))
+      (λ h. let p = and_parts (leb 127 b) (leb b 127) h in inr (omega (arith, leb-true 127 b p.0, leb-true b 127 p.1)))
+      (or_cases (leb 0 b && leb b 31) (leb 127 b && leb b 127) e),
+  λ h. ⊎_elim (λ l. grind (arith, l)) (λ q. grind (arith, q)) h,
+)
 
 -- byte 0 is one of the control bytes
-pub zero_control : (s : List ℕ) → HoldsZero s → HoldsControl s
+zero_control : (s : List ℕ) → HoldsZero s → HoldsControl s
 zero_control s z = (0, z, inl (omega arith))
 
 -- From the scan to the components.
@@ -44,7 +62,7 @@ unfolding dots_here
 begins_dots [] e = record { bytes = text "."; after = []; bad = inr (inl refl); stands = refl; ends = inl refl }
 begins_dots (b ∷ s) e =
     ⊎_elim (λ h. record { bytes = text "."; after = b ∷ s; bad = inr (inl refl); stands = refl; ends = inr (s, ap (λ (x : ℕ). x ∷ s) (eqb-true b (char "/") h)) })
-    (λ h. let p = and_split (eqb b (char ".")) (ends_here s) h in
+    (λ h. let p = and_parts (eqb b (char ".")) (ends_here s) h in
     record { bytes = text ".."; after = s; bad = inr (inr refl); stands = ap (λ (x : ℕ). char "." ∷ x ∷ s) (eqb-true b (char ".") p.0); ends = ends_true s p.1 })
     (or_cases (eqb b (char "/")) (eqb b (char ".") && ends_here s) e)
 
@@ -53,7 +71,7 @@ unfolding bad_here
 begins [] e = record { bytes = []; after = []; bad = inl refl; stands = refl; ends = inl refl }
 begins (b ∷ s) e =
     ⊎_elim (λ h. record { bytes = []; after = b ∷ s; bad = inl refl; stands = refl; ends = inr (s, ap (λ (x : ℕ). x ∷ s) (eqb-true b (char "/") h)) })
-    (λ h. let p = and_split (eqb b (char ".")) (dots_here s) h in subst (λ (x : ℕ). Begins (x ∷ s)) (sym (eqb-true b (char ".") p.0)) (begins_dots s p.1))
+    (λ h. let p = and_parts (eqb b (char ".")) (dots_here s) h in subst (λ (x : ℕ). Begins (x ∷ s)) (sym (eqb-true b (char ".") p.0)) (begins_dots s p.1))
     (or_cases (eqb b (char "/")) (eqb b (char ".") && dots_here s) e)
 
 -- an empty component, by what stands before and after it
@@ -78,22 +96,27 @@ fault s before w g =
     dotted : {c : List ℕ} → before ++ s ≡ before ++ g.bytes ++ g.after → g.bytes ≡ c → Component (before ++ s) c
     dotted e k = record { before = before; after = g.after; stands = e ∙ ap (λ (x : List ℕ). before ++ x ++ g.after) k; starts = w; ends = g.ends }
 
-pub bad_start : (s : List ℕ) → bad_here s ≡ true → BadPath s
+bad_start : (s : List ℕ) → bad_here s ≡ true → BadPath s
 bad_start s e = fault s [] (inl refl) (begins s e)
 
 later : (before s : List ℕ) → bad_later s ≡ true → BadPath (before ++ s)
 later before [] e = absurd (false≢true e)
 later before (b ∷ s) e =
     ⊎_elim
-    (λ h. let p = and_split (eqb b (char "/")) (bad_here s) h in
+    (λ h. let p = and_parts (eqb b (char "/")) (bad_here s) h in
     subst BadPath (append_assoc before (b ∷ []) s) (fault s (before ++ b ∷ []) (inr (before, ap (λ (x : ℕ). before ++ x ∷ []) (eqb-true b (char "/") p.0))) (begins s p.1)))
     (λ h. subst BadPath (append_assoc before (b ∷ []) s) (later (before ++ b ∷ []) s h))
     (or_cases (eqb b (char "/") && bad_here s) (bad_later s) e)
 
-pub bad_later_lem : (s : List ℕ) → bad_later s ≡ true → BadPath s
+bad_later_lem : (s : List ℕ) → bad_later s ≡ true → BadPath s
 bad_later_lem s e = later [] s e
 
 -- From the faults to the scan.
+
+dots_end : (d : List ℕ) → ends_here d ≡ true → dots_here d ≡ true
+unfolding ends_here dots_here
+dots_end [] e = refl
+dots_end (b ∷ d) e = rw e
 
 ends_found : (s : List ℕ) → Ends s → ends_here s ≡ true
 unfolding ends_here
@@ -126,7 +149,7 @@ unfolding bad_here dots_here
 dots_found s (inl k) = component-found s (text ".") (λ after h. dots_end after (ends_found after h)) k
 dots_found s (inr k) = component-found s (text "..") (λ after h. ends_found after h) k
 
-pub good_path : (s : List ℕ) → length s ≤ path_limit → (HoldsControl s → ⊥) → bad_here s ≡ false → bad_later s ≡ false → BadPath s → ⊥
+good_path : (s : List ℕ) → length s ≤ path_limit → (HoldsControl s → ⊥) → bad_here s ≡ false → bad_later s ≡ false → BadPath s → ⊥
 unfolding BadPath bad_here
 good_path s l c h k b =
     ⊎_elim (λ e. false≢true (sym h ∙ rw e refl))
@@ -136,3 +159,64 @@ good_path s l c h k b =
     seen : Seen s → ⊥
     seen (inl e) = false≢true (sym h ∙ e)
     seen (inr e) = false≢true (sym k ∙ e)
+
+-- A path, by the tests in their order.
+module _ (s : List ℕ) where
+  pub path_long : path_limit < length s → (true ≡ true) ↔ BadPath s
+  unfolding BadPath
+  path_long h = yes_iff (inr (inl h))
+
+  pub path_start : (r : Bool) → r ≡ bad_here s → r ≡ true → (r ≡ true) ↔ BadPath s
+  path_start r d e = (λ h. bad_start s (sym d ∙ h), λ b. e)
+
+  module _ (c : Bool) (d : c ≡ list_any is_ascii_control s) where
+    held : (c ≡ true) ↔ HoldsControl s
+    held = any_found is_ascii_control ControlByte control_test s c d
+
+    pub path_control : c ≡ true → (true ≡ true) ↔ BadPath s
+    unfolding BadPath
+    path_control e = yes_iff (inr (inr (inr (inr (inr (held.0 e))))))
+
+    pub path_rest : length s ≤ path_limit → c ≡ false → (h : Bool) → h ≡ bad_here s → h ≡ false → (r : Bool) → r ≡ bad_later s → (r ≡ true) ↔ BadPath s
+    path_rest l f h g e true k = yes_iff (bad_later_lem s (sym k))
+    path_rest l f h g e false k = no_iff (good_path s l (not_if_false held f) (sym g ∙ e) (sym k))
+
+-- The bytes from one slash to the next.
+abbrev pub is_slash : ℕ → Bool
+is_slash b = eqb b (char "/")
+
+later_until : (s : List ℕ) → length_until is_slash s < length s
+    → bad_later s ≡ (bad_here (drop (suc (length_until is_slash s)) s) || bad_later (drop (suc (length_until is_slash s)) s))
+later_until [] l = absurd (omega arith)
+later_until (b ∷ s) l = go (is_slash b) l (later_until s)
+  where
+    go : (t : Bool) → cond t 0 (suc (length_until is_slash s)) < suc (length s)
+        → (length_until is_slash s < length s → bad_later s ≡ (bad_here (drop (suc (length_until is_slash s)) s) || bad_later (drop (suc (length_until is_slash s)) s)))
+        → (t && bad_here s || bad_later s) ≡ (bad_here (drop (cond t 0 (suc (length_until is_slash s))) s) || bad_later (drop (cond t 0 (suc (length_until is_slash s))) s))
+    go true h f = refl
+    go false h f = f (omega arith)
+
+later_none : (s : List ℕ) → length s ≤ length_until is_slash s → bad_later s ≡ false
+later_none [] l = refl
+later_none (b ∷ s) l = go (is_slash b) l (later_none s)
+  where
+    go : (t : Bool) → suc (length s) ≤ cond t 0 (suc (length_until is_slash s)) → (length s ≤ length_until is_slash s → bad_later s ≡ false)
+        → (t && bad_here s || bad_later s) ≡ false
+    go true h f = absurd (omega arith)
+    go false h f = f (omega arith)
+
+module _ (s : List ℕ) (r : Option ℕ) (d : r ≡ position is_slash s) where
+  pub slash_within : (n : ℕ) → r ≡ Some n → n < length s
+  slash_within n e = (position-Some is_slash s n 0 (sym d ∙ e)).0
+
+  pub after_slash : (n : ℕ) → r ≡ Some n → bad_later s ≡ (bad_here (from (n + 1) s) || bad_later (from (n + 1) s))
+  after_slash n e =
+      let u = until_position is_slash s n (sym d ∙ e) in
+      let l = slash_within n e in
+      later_until s (omega arith) ∙ rw (u, add-one n, from-drop (suc n) s)
+
+  pub slash_bad : (n : ℕ) → r ≡ Some n → (h : Bool) → h ≡ bad_here (from (n + 1) s) → h ≡ true → bad_later s ≡ true
+  slash_bad n e h g t = after_slash n e ∙ rw (sym g ∙ t)
+
+  pub no_slash : r ≡ None → bad_later s ≡ false
+  no_slash e = let u = until_no_position is_slash s (sym d ∙ e) in later_none s (omega arith)

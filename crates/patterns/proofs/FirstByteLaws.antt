@@ -2,12 +2,12 @@
 use mathlib.Core.Path.{◌≡◌, sym, ◌∙◌}
 use mathlib.Core.Bool.{Bool, true, false≢true, or-false}
 use mathlib.Core.List.{List, [], ◌∷◌}
-use mathlib.Core.Option.{Option, none, some}
+use Rattle.std.proofs.lemmas.Bool.{and_parts}
+use Rattle.std.specs.Prelude.{Option, None, Some}
 use Prim.Native.Nat.{ℕ}
 use lib.Dec.{eqb}
 use Rattle.bytestrings.specs.Text.{char}
 use Rattle.bytestrings.specs.Letters.{folded}
-use Rattle.bytestrings.proofs.BoolLaws.{and_split}
 use Rattle.patterns.proofs.ItemLaws.{literal_read}
 use Rattle.patterns.specs.Items.{is_literal}
 use Rattle.patterns.specs.Patterns.{Item, literal, and_item, items_from}
@@ -25,12 +25,12 @@ module _ (m : Mode) (c : ℕ) where
   one_first : (rest : List ℕ → Bool) (t : List ℕ) → one_then (accepts m (literal c)) rest t ≡ true → FirstTaken m.fold c t
   unfolding accepts
   one_first rest [] e = absurd (false≢true e)
-  one_first rest (x ∷ t) e = (and_split (folded m.fold (λ y. eqb y c) x) (rest t) e).0
+  one_first rest (x ∷ t) e = (and_parts (folded m.fold (λ y. eqb y c) x) (rest t) e).0
 
   shares_first : (o : Option (List Item)) (t : List ℕ) → shares_of m (and_item (literal c) o) t ≡ true → FirstTaken m.fold c t
-  shares_first none t e = absurd (false≢true e)
-  shares_first (some []) t e = one_first is_empty t e
-  shares_first (some (jt ∷ its)) t e = one_first (shares_test m (jt ∷ its)) t (sym (or-false (one_then (accepts m (literal c)) (shares_test m (jt ∷ its)) t)) ∙ e)
+  shares_first None t e = absurd (false≢true e)
+  shares_first (Some []) t e = one_first is_empty t e
+  shares_first (Some (jt ∷ its)) t e = one_first (shares_test m (jt ∷ its)) t (sym (or-false (one_then (accepts m (literal c)) (shares_test m (jt ∷ its)) t)) ∙ e)
 
   pub first_taken : (p t : List ℕ) → is_literal c ≡ true → matches_test m (c ∷ p) t ≡ true → FirstTaken m.fold c t
   unfolding matches_test tail_matches items_from

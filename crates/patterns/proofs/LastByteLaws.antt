@@ -3,7 +3,7 @@ use mathlib.Core.Path.{◌≡◌, refl, sym, ap, subst, ◌∙◌}
 use mathlib.Core.Logic.{◌⊎◌, inl, inr, ⊎_elim}
 use mathlib.Core.Bool.{Bool, true, false, cond}
 use mathlib.Core.List.{List, [], ◌∷◌, ◌++◌}
-use mathlib.Core.Option.{Option, none, some}
+use Rattle.std.specs.Prelude.{Option, None, Some}
 use Prim.Native.Nat.{ℕ, zero, suc, ◌-◌, ◌<◌}
 use native.Mathlib.Nat.{eq-or-lt_of_le}
 use native.Mathlib.Omega.{arith}
@@ -46,8 +46,8 @@ LastIs c (it ∷ jt ∷ its) = LastIs c (jt ∷ its)
 
 -- the same of a pattern that is not broken
 abbrev LastOf : ℕ → Option (List Item) → Type 0
-LastOf c none = Unit {0}
-LastOf c (some its) = LastIs c its
+LastOf c None = Unit {0}
+LastOf c (Some its) = LastIs c its
 
 -- an item that does not reach the end of p, or is the literal c and does
 abbrev Fits : ℕ → List ℕ → First → Type 0
@@ -55,7 +55,7 @@ Fits c p broken = Unit {0}
 Fits c p (item it n) = (n < length p) ⊎ ((n ≡ length p) × (it ≡ literal c))
 
 -- no item follows one that reaches the end
-items-passed : (p : List ℕ) (k : ℕ) (after : Bool) → k ≡ length p → some [] ≡ items_from p k after
+items-passed : (p : List ℕ) (k : ℕ) (after : Bool) → k ≡ length p → Some [] ≡ items_from p k after
 unfolding items_from
 items-passed [] k after e = refl
 items-passed (x ∷ p) zero after e = absurd (omega arith)
@@ -69,9 +69,9 @@ ends_last c (x ∷ y ∷ p) zero l h = absurd (omega arith)
 ends_last c (x ∷ y ∷ p) (suc n) l h = ends_last c (y ∷ p) n (omega arith) h
 
 last_more : (c : ℕ) (it : Item) (o : Option (List Item)) → LastOf c o → LastOf c (and_item it o)
-last_more c it none h = tt
-last_more c it (some []) h = absurd h
-last_more c it (some (jt ∷ its)) h = h
+last_more c it None h = tt
+last_more c it (Some []) h = absurd h
+last_more c it (Some (jt ∷ its)) h = h
 
 module _ (c : ℕ) (plain : Plain c) where
   stars-before : (p : List ℕ) → EndsIn c p → stars p < length p
@@ -86,8 +86,8 @@ module _ (c : ℕ) (plain : Plain c) where
 
   class_before : (x : ℕ) (p : List ℕ) (o : Option Class) → read_class p ≡ o → EndsIn c p → Fits c (x ∷ p) (read_bracket o)
   unfolding read_bracket
-  class_before x p none e h = tt
-  class_before x p (some k) e h =
+  class_before x p None e h = tt
+  class_before x p (Some k) e h =
       let s = class_size_lem p k e in
       ⊎_elim (λ q. let l : length p ≡ suc (k.size - 1) = omega (arith, s.0) in absurd (plain.3 (sym (ends_last c p (k.size - 1) l h) ∙ s.2)))
       (λ q. inl (omega arith)) (eq-or-lt_of_le s.1)
@@ -105,13 +105,13 @@ module _ (c : ℕ) (plain : Plain c) where
       (λ e. by_cases (Fits c (x ∷ y ∷ p)) (eqb x (char "[")) _ _ (λ e. class_before x (y ∷ p) (read_class (y ∷ p)) refl h)
       (λ e. inl (omega arith)))))
 
-  one_last : (after : Bool) (x : ℕ) → x ≡ c → LastOf c (items_after (read_item after x []) (λ n. some []))
+  one_last : (after : Bool) (x : ℕ) → x ≡ c → LastOf c (items_after (read_item after x []) (λ n. Some []))
   unfolding read_item read_bracket read_class members
   one_last after x h =
-      by_cases (λ f. LastOf c (items_after f (λ n. some []))) (eqb x (char "\\")) _ _ (λ e. tt)
-      (λ e. by_cases (λ f. LastOf c (items_after f (λ n. some []))) (eqb x (char "?")) _ _ (λ e. absurd (plain.2 (sym h ∙ eqb-true x (char "?") e)))
-      (λ e. by_cases (λ f. LastOf c (items_after f (λ n. some []))) (eqb x (char "*")) _ _ (λ e. absurd (plain.0 (sym h ∙ eqb-true x (char "*") e)))
-      (λ e. by_cases (λ f. LastOf c (items_after f (λ n. some []))) (eqb x (char "[")) _ _ (λ e. tt)
+      by_cases (λ f. LastOf c (items_after f (λ n. Some []))) (eqb x (char "\\")) _ _ (λ e. tt)
+      (λ e. by_cases (λ f. LastOf c (items_after f (λ n. Some []))) (eqb x (char "?")) _ _ (λ e. absurd (plain.2 (sym h ∙ eqb-true x (char "?") e)))
+      (λ e. by_cases (λ f. LastOf c (items_after f (λ n. Some []))) (eqb x (char "*")) _ _ (λ e. absurd (plain.0 (sym h ∙ eqb-true x (char "*") e)))
+      (λ e. by_cases (λ f. LastOf c (items_after f (λ n. Some []))) (eqb x (char "[")) _ _ (λ e. tt)
       (λ e. ap literal h))))
 
   -- where k bytes belong to an item that was read and more follow

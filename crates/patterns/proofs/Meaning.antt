@@ -4,11 +4,11 @@ use mathlib.Core.Path.{◌≡◌, refl, sym, ap, subst, ◌∙◌}
 use mathlib.Core.Logic.{⊎_elim, ◌↔◌}
 use mathlib.Core.Bool.{Bool, true, ◌&&◌, ◌||◌, false≢true, or-true}
 use mathlib.Core.List.{List, [], ◌∷◌, ◌++◌}
-use mathlib.Core.Option.{Option, none, some}
+use Rattle.std.proofs.lemmas.Bool.{or_cases, and_parts}
+use Rattle.std.specs.Prelude.{Option, None, Some}
 use lib.Dec.{eqb}
 use borrow.Author.Tests.{eqb-true}
 use Rattle.bytestrings.specs.Text.{char}
-use Rattle.bytestrings.proofs.BoolLaws.{or_cases, and_split}
 use Rattle.patterns.specs.Patterns.{within, crossing, crossing_slash, Item, literal, any_byte, one_of, run, items}
 use Rattle.patterns.specs.Sharing.{accepts, Each, TakesOne, Takes, Shares, none_left, shared, vanished, Matches}
 use Rattle.patterns.specs.MatchTest.{one_then, run_then, passes, item_then, vanish, shares_test, shares_of, tail_matches, matches_test, MatchDecided}
@@ -25,7 +25,7 @@ Split P Q t = (w : List ℕ) × (u : List ℕ) × (t ≡ w ++ u) × P w × Q u
 module _ (m : Mode) where
   one_sound : (it : Item) (f : List ℕ → Bool) (t : List ℕ) → one_then (accepts m it) f t ≡ true → Split (TakesOne m it) (λ u. f u ≡ true) t
   one_sound it f [] e = absurd (false≢true e)
-  one_sound it f (x ∷ t) e = let s = and_split (accepts m it x) (f t) e in (x ∷ [], t, refl, (x, refl, s.0), s.1)
+  one_sound it f (x ∷ t) e = let s = and_parts (accepts m it x) (f t) e in (x ∷ [], t, refl, (x, refl, s.0), s.1)
 
   one_join : (it : Item) (f : List ℕ → Bool) (w u : List ℕ) → TakesOne m it w → f u ≡ true → one_then (accepts m it) f (w ++ u) ≡ true
   one_join it f w u h q = rw (h.1, h.2) q
@@ -34,7 +34,7 @@ run_sound : (a : ℕ → Bool) (f : List ℕ → Bool) (t : List ℕ) → run_th
 run_sound a f [] e = ([], [], refl, tt, e)
 run_sound a f (x ∷ t) e =
     ⊎_elim (λ h. ([], x ∷ t, refl, tt, h))
-    (λ h. let s = and_split (a x) (run_then a f t) h in let r = run_sound a f t s.1 in
+    (λ h. let s = and_parts (a x) (run_then a f t) h in let r = run_sound a f t s.1 in
     (x ∷ r.0, r.1, ap {B = List ℕ} (λ l. x ∷ l) r.2, (s.0, r.3), r.4))
     (or_cases (f (x ∷ t)) (a x && run_then a f t) e)
 
@@ -69,7 +69,7 @@ module _ (m : Mode) where
 
   vanish_sound : (it jt : Item) (its : List Item) (t : List ℕ) → vanish m it jt ≡ true → Shares m its t → Shares m (it ∷ jt ∷ its) t
   vanish_sound (run crossing_slash) (literal c) its t e s =
-      let b = and_split m.path (eqb c (char "/")) e in
+      let b = and_parts m.path (eqb c (char "/")) e in
       subst (λ (k : ℕ). Shares m (run crossing_slash ∷ literal k ∷ its) t) (sym (eqb-true c (char "/") b.1)) (vanished b.0 s)
   vanish_sound (run crossing_slash) any_byte its t e s = absurd (false≢true e)
   vanish_sound (run crossing_slash) (one_of c) its t e s = absurd (false≢true e)
@@ -89,7 +89,7 @@ module _ (m : Mode) where
   sound (it ∷ []) t e = let s = item_sound it is_empty t e in shared s.0 s.1 s.2 s.3 (empty_sound s.1 s.4)
   sound (it ∷ jt ∷ its) t e =
       ⊎_elim (λ h. let s = item_sound it (shares_test m (jt ∷ its)) t h in shared s.0 s.1 s.2 s.3 (sound (jt ∷ its) s.1 s.4))
-      (λ h. let s = and_split (vanish m it jt) (shares_test m its t) h in vanish_sound it jt its t s.0 (sound its t s.1))
+      (λ h. let s = and_parts (vanish m it jt) (shares_test m its t) h in vanish_sound it jt its t s.0 (sound its t s.1))
       (or_cases (item_then m it (shares_test m (jt ∷ its)) t) (vanish m it jt && shares_test m its t) e)
 
   item_more : (it : Item) (its : List Item) (w u : List ℕ) → Takes m it w → shares_test m its u ≡ true → shares_test m (it ∷ its) (w ++ u) ≡ true
@@ -102,9 +102,9 @@ module _ (m : Mode) where
   complete (vanished {its} {t} p s) =
       or_both (item_then m (run crossing_slash) (shares_test m (literal (char "/") ∷ its)) t) (m.path && true) (shares_test m its t) (rw p refl) (complete s)
 
-  of_sound : (o : Option (List Item)) (t : List ℕ) → shares_of m o t ≡ true → (its : List Item) × (o ≡ some its) × Shares m its t
-  of_sound none t e = absurd (false≢true e)
-  of_sound (some its) t e = (its, refl, sound its t e)
+  of_sound : (o : Option (List Item)) (t : List ℕ) → shares_of m o t ≡ true → (its : List Item) × (o ≡ Some its) × Shares m its t
+  of_sound None t e = absurd (false≢true e)
+  of_sound (Some its) t e = (its, refl, sound its t e)
 
   -- the test decides `Matches`
   pub test_decides : (p t : List ℕ) → (matches_test m p t ≡ true) ↔ Matches m p t

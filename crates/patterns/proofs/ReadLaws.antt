@@ -2,7 +2,7 @@
 use mathlib.Core.Path.{◌≡◌, refl, sym, ap, subst}
 use mathlib.Core.Bool.{Bool, true, false, cond}
 use mathlib.Core.List.{List, [], ◌∷◌}
-use mathlib.Core.Option.{Option, none, some}
+use Rattle.std.specs.Prelude.{Option, None, Some}
 use Prim.Native.Nat.{ℕ, zero, suc, ◌-◌, ◌≤◌}
 use native.Mathlib.Numerals.{sub-one}
 use native.Mathlib.Omega.{arith}
@@ -60,8 +60,8 @@ stars_last x (y ∷ p) after e = rw e (go (eqb y (char "*")) refl (stars_last y 
 
 class_sized : (after : Bool) (x : ℕ) (p : List ℕ) (o : Option Class) → read_class p ≡ o → Sized after (x ∷ p) (read_bracket o)
 unfolding read_bracket after_at
-class_sized after x p none e = tt
-class_sized after x p (some c) e = go c.size (class_size_lem p c e)
+class_sized after x p None e = tt
+class_sized after x p (Some c) e = go c.size (class_size_lem p c e)
   where
     go : (n : ℕ) → (1 ≤ n) × (n ≤ length p) × (get_or p (n - 1) 0 ≡ char "]") → (1 ≤ suc n) × (suc n ≤ suc (length p)) × (after_at after (x ∷ p) (suc n) ≡ false)
     go zero h = absurd (omega (arith, h.0))

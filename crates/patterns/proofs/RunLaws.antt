@@ -3,32 +3,17 @@ use mathlib.Core.Path.{◌≡◌, refl, sym, ap, ◌∙◌}
 use mathlib.Core.Bool.{Bool, true, false, cond, not, and-false, false≢true}
 use mathlib.Core.List.{List, [], ◌∷◌}
 use Prim.Native.Nat.{ℕ, suc, ◌+◌, ◌<◌, ◌≤◌}
-use native.Mathlib.Numerals.{add-one}
 use native.Mathlib.Nat.{le_refl}
 use native.Mathlib.Omega.{arith}
 use lib.Dec.{eqb}
-use lib.ListN.{length, drop, get_or, drop_of_length-le}
-use lib.Seq.{drop-cons}
-use borrow.Author.Tests.{eq-eqb, ne_eqb, le-leb, lt-leb}
+use lib.ListN.{length, get_or}
+use borrow.Author.Tests.{eq-eqb, le-leb, lt-leb}
+use Rattle.std.specs.Prelude.{Option}
+use Rattle.std.specs.Option.{unwrap_or}
+use Rattle.std.specs.List.{position}
+use Rattle.std.proofs.lemmas.List.Recursion.{is_position_or_len}
 use Rattle.bytestrings.specs.Text.{char}
-use Rattle.bytestrings.proofs.SliceLaws.{from, from-drop}
-use Rattle.patterns.specs.Patterns.{stars, starts_slash, component_ends, crosses}
-
--- the stars of p, of which i are counted
-pub stars-start : (p : List ℕ) → stars p ≡ 0 + stars (drop 0 p)
-stars-start p = omega arith
-
-pub stars_stop : (p : List ℕ) (i : ℕ) → i < length p → (get_or p i 0 ≡ char "*" → ⊥) → stars p ≡ i + stars (drop i p) → i ≡ stars p
-unfolding stars
-stars_stop p i h e q = omega (arith, rw (drop-cons p i 0 h, ne_eqb (get_or p i 0) (char "*") e) at q)
-
-pub stars_more : (p : List ℕ) (i : ℕ) → i < length p → get_or p i 0 ≡ char "*" → stars p ≡ i + stars (drop i p) → stars p ≡ i + 1 + stars (drop (i + 1) p)
-unfolding stars
-stars_more p i h e q = rw (add-one i) (omega (arith, rw (drop-cons p i 0 h, eq-eqb (get_or p i 0) (char "*") e) at q))
-
-pub stars_end : (p : List ℕ) (i : ℕ) → length p ≤ i → stars p ≡ i + stars (drop i p) → i ≡ stars p
-unfolding stars
-stars_end p i h q = omega (arith, rw (drop_of_length-le p h) at q)
+use Rattle.patterns.specs.Patterns.{stars, component_ends, crosses}
 
 pub stars_le : (p : List ℕ) → stars p ≤ length p
 unfolding stars
@@ -39,45 +24,26 @@ stars_le (x ∷ p) = go (stars_le p) (eqb x (char "*"))
     go h true = omega arith
     go h false = omega arith
 
+stars_cons : (x : ℕ) (p : List ℕ) → stars (x ∷ p) ≡ cond (not (eqb x (char "*"))) 0 (1 + stars p)
+unfolding stars
+stars_cons x p = go (eqb x (char "*"))
+  where
+    go : (b : Bool) → cond b (suc (stars p)) 0 ≡ cond (not b) 0 (1 + stars p)
+    go true = omega arith
+    go false = refl
+
+-- where the first other byte stands, or the end
+pub stars_found : (p : List ℕ) (o : Option ℕ) (n : ℕ) → o ≡ position (λ x. not (eqb x (char "*"))) p → n ≡ unwrap_or o (length p) → n ≡ stars p
+unfolding stars
+stars_found p o n e h =
+    let q = is_position_or_len stars (λ x. not (eqb x (char "*"))) refl stars_cons p in
+    let k : n ≡ unwrap_or (position (λ x. not (eqb x (char "*"))) p) (length p) = h ∙ ap (λ (r : Option ℕ). unwrap_or r (length p)) e in
+    grind (arith, q, k, stars_le p)
+
 pub stars_some : (p : List ℕ) → get_or p 0 0 ≡ char "*" → 1 ≤ stars p
 unfolding stars
 stars_some [] e = absurd (omega arith)
 stars_some (x ∷ p) e = rw (eq-eqb x (char "*") e) (omega arith)
-
-pub slash_nil : (p : List ℕ) → length p ≡ 0 → false ≡ starts_slash p
-unfolding starts_slash
-slash_nil [] h = refl
-slash_nil (x ∷ p) h = absurd (omega arith)
-
-pub slash_cons : (p : List ℕ) → (length p ≡ 0 → ⊥) → eqb (get_or p 0 0) (char "/") ≡ starts_slash p
-unfolding starts_slash
-slash_cons [] h = absurd (h refl)
-slash_cons (x ∷ p) h = refl
-
-pub ends_nil : (p : List ℕ) → length p ≡ 0 → true ≡ component_ends p
-unfolding component_ends
-ends_nil [] h = refl
-ends_nil (x ∷ p) h = absurd (omega arith)
-
-pub ends_slash_lem : (p : List ℕ) → (length p ≡ 0 → ⊥) → get_or p 0 0 ≡ char "/" → true ≡ component_ends p
-unfolding component_ends
-ends_slash_lem [] h e = absurd (h refl)
-ends_slash_lem (x ∷ p) h e = rw (eq-eqb x (char "/") e)
-
-pub ends_escaped : (p : List ℕ) (r : Bool) → (length p ≡ 0 → ⊥) → (get_or p 0 0 ≡ char "/" → ⊥) → get_or p 0 0 ≡ char "\\" → r ≡ starts_slash (from 1 p) → r ≡ component_ends p
-unfolding component_ends
-ends_escaped [] r h a e q = absurd (h refl)
-ends_escaped (x ∷ p) r h a e q = rw (ne_eqb x (char "/") a, eq-eqb x (char "\\") e) (q ∙ ap starts_slash (from-drop 1 (x ∷ p)))
-
-pub ends_not : (p : List ℕ) → (length p ≡ 0 → ⊥) → (get_or p 0 0 ≡ char "/" → ⊥) → (get_or p 0 0 ≡ char "\\" → ⊥) → false ≡ component_ends p
-unfolding component_ends
-ends_not [] h a e = absurd (h refl)
-ends_not (x ∷ p) h a e = rw (ne_eqb x (char "/") a, ne_eqb x (char "\\") e)
-
-pub crosses_not_after : (after : Bool) (n : ℕ) (p : List ℕ) → not after ≡ true → false ≡ crosses after n p
-unfolding crosses
-crosses_not_after true n p e = absurd (false≢true e)
-crosses_not_after false n p e = refl
 
 pub crosses-single : (after : Bool) (n : ℕ) (p : List ℕ) → n < 2 → false ≡ crosses after n p
 unfolding crosses

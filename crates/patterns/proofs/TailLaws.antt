@@ -3,7 +3,8 @@ use mathlib.Core.Path.{◌≡◌, refl, sym, ap, ap₂, subst, ◌∙◌, fun_ex
 use mathlib.Core.Logic.{◌⊎◌, inl, inr}
 use mathlib.Core.Bool.{Bool, true, false, ◌&&◌, ◌||◌, and-false, or-false, or_comm, false≢true}
 use mathlib.Core.List.{List, [], ◌∷◌}
-use mathlib.Core.Option.{Option, none, some}
+use Rattle.std.proofs.lemmas.Bool.{and_parts}
+use Rattle.std.specs.Prelude.{Option, None, Some}
 use Prim.Native.Nat.{ℕ, ◌<◌}
 use native.Mathlib.Omega.{arith}
 use lib.Dec.{eqb, leb}
@@ -16,7 +17,6 @@ use Rattle.patterns.proofs.ReadLaws.{single, Sized, item_sized, by_cases, items_
 use Rattle.patterns.specs.Patterns.{Reach, within, crossing, crossing_slash, Item, literal, any_byte, one_of, run, First, broken, item, stars, starts_slash}
 use Rattle.patterns.specs.Patterns.{component_ends, crosses, reach_of, read_run, read_escaped, read_bracket, read_item, and_item, items_from}
 use Rattle.patterns.specs.Sharing.{inside, accepts}
-use Rattle.bytestrings.proofs.BoolLaws.{and_split}
 use Rattle.patterns.specs.MatchTest.{one_then, run_then, passes, item_then, vanish, shares_test, shares_of, tail_matches}
 use Rattle.bytestrings.specs.Bytes.{is_empty}
 use Rattle.patterns.specs.inner.Tails.{after_at, within_then, slash_then}
@@ -42,9 +42,9 @@ abbrev Stays : Mode → Item → Type 0
 Stays m it = (jt : Item) → vanish m it jt ≡ false
 
 step_of : (m : Mode) (it : Item) (o : Option (List Item)) (t : List ℕ) → Stays m it → shares_of m (and_item it o) t ≡ item_then m it (shares_of m o) t
-step_of m it none t h = sym (item_none m it t)
-step_of m it (some []) t h = refl
-step_of m it (some (jt ∷ its)) t h = rw (h jt) (or-false _)
+step_of m it None t h = sym (item_none m it t)
+step_of m it (Some []) t h = refl
+step_of m it (Some (jt ∷ its)) t h = rw (h jt) (or-false _)
 
 tail_step : (m : Mode) (after : Bool) (x : ℕ) (p : List ℕ) (it : Item) (n : ℕ) (t : List ℕ) → read_item after x p ≡ item it n → Stays m it
     → tail_matches m after (x ∷ p) t ≡ item_then m it (tail_matches m (after_at after (x ∷ p) n) (drop n (x ∷ p))) t
@@ -72,8 +72,8 @@ One (item it n) = single it ≡ true
 
 bracket_one : (o : Option Class) → One (read_bracket o)
 unfolding read_bracket
-bracket_one none = tt
-bracket_one (some c) = refl
+bracket_one None = tt
+bracket_one (Some c) = refl
 
 escaped_one : (p : List ℕ) → One (read_escaped p)
 escaped_one [] = tt
@@ -193,7 +193,7 @@ pub escaped_rest : (q : List ℕ) → component_ends q ≡ true → starts_slash
 unfolding component_ends starts_slash
 escaped_rest [] h e n = absurd (n refl)
 escaped_rest (x ∷ []) h e n = absurd (false≢true (rw (e, and-false (eqb x (char "\\"))) at h))
-escaped_rest (x ∷ y ∷ q) h e n = let b = and_split (eqb x (char "\\")) (eqb y (char "/")) (rw e at h) in
+escaped_rest (x ∷ y ∷ q) h e n = let b = and_parts (eqb x (char "\\")) (eqb y (char "/")) (rw e at h) in
     (q, ap₂ (λ (a c : ℕ). a ∷ c ∷ q) (eqb-true x (char "\\") b.0) (eqb-true y (char "/") b.1))
 
 slash_rest : (q : List ℕ) → starts_slash q ≡ true → (s : List ℕ) × (q ≡ char "/" ∷ s)
@@ -203,7 +203,7 @@ slash_rest (x ∷ q) h = (q, ap (λ (a : ℕ). a ∷ q) (eqb-true x (char "/") h
 
 pub crosses-ends : (after : Bool) (n : ℕ) (q : List ℕ) → crosses after n q ≡ true → (after ≡ true) × (component_ends q ≡ true)
 unfolding crosses
-crosses-ends true n q h = (refl, (and_split (leb 2 n) (component_ends q) h).1)
+crosses-ends true n q h = (refl, (and_parts (leb 2 n) (component_ends q) h).1)
 crosses-ends false n q h = absurd (false≢true h)
 
 escaped_step : (m : Mode) (s u : List ℕ) → tail_matches m false (char "\\" ∷ char "/" ∷ s) u ≡ one_then (λ x. eqb x (char "/")) (tail_matches m true s) u
@@ -228,14 +228,14 @@ tail_escaped m after p t l e h s n =
 -- a crossing run and its slash, which may take nothing together
 vanish_step : (m : Mode) (o : Option (List Item)) (t : List ℕ) → m.path ≡ true
     → shares_of m (and_item (run crossing_slash) (and_item (literal (char "/")) o)) t ≡ (shares_of m o t || run_then (λ x. true) (one_then (λ x. eqb x (char "/")) (shares_of m o)) t)
-vanish_step m none t h =
+vanish_step m None t h =
     sym (run_same (λ x. true) (λ x. true) (one_then (λ x. eqb x (char "/")) (λ u. false)) (λ u. false) (λ x. refl) (λ u. one_none (λ x. eqb x (char "/")) u) t ∙ run_none (λ x. true) t)
-vanish_step m (some its) t h =
+vanish_step m (Some its) t h =
     ap (λ (b : Bool). run_then (λ x. true) (shares_test m (literal (char "/") ∷ its)) t || (b && true) && shares_test m its t) h
     ∙ or_comm (run_then (λ x. true) (shares_test m (literal (char "/") ∷ its)) t) (shares_test m its t)
     ∙ ap (λ (b : Bool). shares_test m its t || b)
     (run_same (λ x. true) (λ x. true) (shares_test m (literal (char "/") ∷ its)) (one_then (λ x. eqb x (char "/")) (shares_test m its)) (λ x. refl)
-    (λ u. step_of m (literal (char "/")) (some its) u (λ jt. refl)
+    (λ u. step_of m (literal (char "/")) (Some its) u (λ jt. refl)
     ∙ one_same (accepts m (literal (char "/"))) (λ x. eqb x (char "/")) (shares_test m its) (shares_test m its) (slash_accepts m) (λ w. refl) u) t)
 
 slash_items : (s : List ℕ) → items_from (char "/" ∷ s) 0 false ≡ and_item (literal (char "/")) (items_from s 0 true)

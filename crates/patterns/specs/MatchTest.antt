@@ -1,7 +1,6 @@
 -- Whether a pattern matches, as a test that can be computed. The questions are defined by it; `MatchDecided`, which an engine promises, has it beside the
 -- relation `Matches`, and proofs/Meaning.antt proves that it decides that relation.
-use Rattle.std.specs.Prelude.{ℕ, ◌≡◌, ◌↔◌, Bool, true, false, ◌&&◌, ◌||◌, List, [], ◌∷◌, eqb}
-use Rattle.std.proofs.Math.Option.{Option, none, some}
+use Rattle.std.specs.Prelude.{ℕ, ◌≡◌, ◌↔◌, Bool, true, false, ◌&&◌, ◌||◌, List, [], ◌∷◌, eqb, Option, None, Some}
 use Rattle.bytestrings.specs.Bytes.{is_empty}
 use Rattle.bytestrings.specs.Text.{char}
 use Rattle.patterns.specs.Patterns.{Reach, within, crossing, crossing_slash, Item, literal, any_byte, one_of, run, items_from}
@@ -51,8 +50,8 @@ shares_test m (it ∷ jt ∷ its) t = item_then m it (shares_test m (jt ∷ its)
 
 -- the same of the items that were read; "A broken pattern matches nothing." R-14: "Both questions .. treat broken as no match as before"
 abbrev pub shares_of : Mode → Option (List Item) → List ℕ → Bool
-shares_of m none t = false
-shares_of m (some its) t = shares_test m its t
+shares_of m None t = false
+shares_of m (Some its) t = shares_test m its t
 
 -- what is left of a pattern matches the text. `after`: it is the whole pattern, or follows a byte `/`
 unfoldable pub tail_matches : Mode → Bool → List ℕ → List ℕ → Bool

@@ -1,6 +1,5 @@
 -- Document 01, "Patterns": "A pattern is read left to right into items".
-use Rattle.std.specs.Prelude.{ℕ, zero, suc, pred, Bool, true, cond, ◌&&◌, ◌||◌, List, [], ◌∷◌, eqb, leb, drop}
-use Rattle.std.proofs.Math.Option.{Option, none, some}
+use Rattle.std.specs.Prelude.{ℕ, zero, suc, pred, Bool, true, cond, ◌&&◌, ◌||◌, List, [], ◌∷◌, eqb, leb, drop, Option, None, Some}
 use Rattle.bytestrings.specs.Text.{char}
 use Rattle.bytestrings.specs.Bytes.{first_is}
 use Rattle.classes.specs.Members.{Class, read_class}
@@ -58,8 +57,8 @@ read_escaped (y ∷ p) = item (literal y) 2
 
 -- the item that a `[` begins, by the class after it
 unfoldable pub read_bracket : Option Class → First
-read_bracket none = broken
-read_bracket (some c) = item (one_of c) (suc c.size)
+read_bracket None = broken
+read_bracket (Some c) = item (one_of c) (suc c.size)
 
 -- the item whose first byte is x, with p after that byte. "Any other byte is literal."
 unfoldable pub read_item : Bool → ℕ → List ℕ → First
@@ -72,18 +71,18 @@ read_item after x p =
 
 -- one item more; a broken rest stays broken
 abbrev pub and_item : Item → Option (List Item) → Option (List Item)
-and_item it none = none
-and_item it (some its) = some (it ∷ its)
+and_item it None = None
+and_item it (Some its) = Some (it ∷ its)
 
 -- the first item and then the items after its n bytes, of which the first byte is passed already
 abbrev pub items_after : First → (ℕ → Option (List Item)) → Option (List Item)
-items_after broken rest = none
+items_after broken rest = None
 items_after (item it n) rest = and_item it (rest (pred n))
 
 -- the items of a pattern of which the first k bytes belong to an item that was read; none: "broken".
 -- `after`: the pattern starts here, or the byte before is `/`
 unfoldable pub items_from : List ℕ → ℕ → Bool → Option (List Item)
-items_from [] k after = some []
+items_from [] k after = Some []
 items_from (x ∷ p) zero after = items_after (read_item after x p) (λ n. items_from p n (eqb x (char "/")))
 items_from (x ∷ p) (suc k) after = items_from p k (eqb x (char "/"))
 

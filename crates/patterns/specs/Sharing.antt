@@ -1,7 +1,6 @@
 -- Document 01, "Patterns": what each item may take, and when a pattern matches a text: demand 2's "exactly when the text can be shared out among
 -- the pattern's items".
-use Rattle.std.specs.Prelude.{ℕ, ◌≡◌, Bool, true, false, not, ◌&&◌, List, [], ◌∷◌, ◌++◌, eqb}
-use Rattle.std.proofs.Math.Option.{some}
+use Rattle.std.specs.Prelude.{ℕ, ◌≡◌, Bool, true, false, not, ◌&&◌, List, [], ◌∷◌, ◌++◌, eqb, Some}
 use Rattle.bytestrings.specs.Text.{char}
 use Rattle.bytestrings.specs.Letters.{folded}
 use Rattle.classes.specs.Members.{class_accepts}
@@ -51,4 +50,4 @@ pub data Shares (m : Mode) : List Item → List ℕ → Type 0 where
 
 -- "A broken pattern matches nothing. Otherwise it matches exactly when the text is the joining, in order, of what its items may take."
 unfoldable pub Matches : Mode → List ℕ → List ℕ → Type 0
-Matches m p t = (its : List Item) × (items p ≡ some its) × Shares m its t
+Matches m p t = (its : List Item) × (items p ≡ Some its) × Shares m its t

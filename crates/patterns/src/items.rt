@@ -1,5 +1,5 @@
 // Items that take one byte.
-ghost use Rattle.std.specs.Prelude.{◌≡◌, cond};
+ghost use Rattle.std.specs.Prelude.{◌≡◌};
 ghost use Rattle.patterns.specs.Sharing.{inside};
 ghost use Rattle.classes.specs.Members.{read_class};
 ghost use Rattle.patterns.specs.Patterns.{read_bracket};
@@ -7,91 +7,64 @@ ghost use Rattle.patterns.specs.Items.{is_literal, taken_by, taken};
 
 use crate::Mode;
 use bytestrings::letters::same_letter;
-use classes::class::{Tested, test_class};
+use classes::class::test_class;
 
 // Whether x may be taken by what takes any byte, in path mode any but `/`.
+#[tactic(auto, unfolding(crate::specs::Sharing::inside))]
 pub fn is_inside(x: u8, m: Mode) -> bool
     ensures { result ≡ inside m x }
 {
-    if m.path {
-        return x != b'/';
-    }
-    true
+    !(m.path && x == b'/')
 }
 
-// n where the item accepts, else 0.
-fn sized(accepts: bool, n: usize) -> usize
-    ensures { result ≡ cond accepts n 0 }
-{
-    if accepts { n } else { 0 }
-}
-
-// The size of the class that begins with `[` before q, where it accepts x; else 0.
-fn class_takes(q: &[u8], x: u8, m: Mode) -> usize
+// The size of the class that begins with `[` before q, where it accepts x. It stays a call, so that `?` and escapes save no registers for it.
+#[inline(never)]
+#[tactic(auto, using(crate::proofs::ItemLaws::class_outside, crate::proofs::ItemLaws::class_none, crate::proofs::ItemLaws::class_some, crate::proofs::ItemLaws::class_fits))]
+fn class_takes(q: &[u8], x: u8, m: Mode) -> Option<usize>
     ensures { result ≡ taken_by m x (read_bracket (read_class q.now)) }
 {
     if !is_inside(x, m) {
-        return 0;
+        return None;
     }
-    match test_class(q, x, m.fold) {
-        Tested::Bad => 0,
-        Tested::Read(accepts, n) => sized(accepts, n + 1),
-    }
+    let class = test_class(q, x, m.fold)?;
+    class.accepts.then_some(class.size + 1)
 }
 
-// What `item_takes` answers, for the items that are no literals: kept a call of its own, so that the loop over literals stays small.
-pub fn other_takes(p: &[u8], x: u8, m: Mode) -> usize
+// What `item_takes` answers, for the items that are no literals.
+// (b) Apart from `item_takes`, so that the loop over literals stays small: as one function, 001's rows took x1.04 and crossing runs x1.20 the instructions.
+#[tactic(auto, unfolding(crate::specs::Items::taken, crate::specs::Items::taken_by, crate::specs::Patterns::read_item, crate::specs::Patterns::read_run, crate::specs::Sharing::accepts))]
+pub fn other_takes(p: &[u8], x: u8, m: Mode) -> Option<usize>
     ensures { result ≡ taken m p.now x }
 {
-    if p.len() == 0 {
-        return 0;
+    match p {
+        [b'\\', rest @ ..] => match rest {
+            [c, ..] => same_letter(*c, x, m.fold).then_some(2),
+            [] => None,
+        },
+        [b'?', ..] => is_inside(x, m).then_some(1),
+        [b'[', rest @ ..] => class_takes(rest, x, m),
+        [] | [b'*', ..] => None,
+        [c, ..] => same_letter(*c, x, m.fold).then_some(1),
     }
-    let c = p[0];
-    if c == b'\\' {
-        if p.len() < 2 {
-            return 0;
-        }
-        return sized(same_letter(p[1], x, m.fold), 2);
-    }
-    if c == b'?' {
-        return sized(is_inside(x, m), 1);
-    }
-    if c == b'*' {
-        return 0;
-    }
-    if c == b'[' {
-        return class_takes(&p[1..], x, m);
-    }
-    sized(same_letter(c, x, m.fold), 1)
 }
 
 // Whether the byte stands for itself as an item.
+#[tactic(auto, unfolding(crate::specs::Items::is_literal))]
 pub fn is_literal(c: u8) -> bool
     ensures { result ≡ is_literal c }
 {
-    if c == b'*' {
-        return false;
-    }
-    if c == b'?' {
-        return false;
-    }
-    if c == b'[' {
-        return false;
-    }
-    c != b'\\'
+    !matches!(c, b'*' | b'?' | b'[' | b'\\')
 }
 
-// How many bytes the first item of p is written with, where it is of one byte and accepts x; else 0.
-// Literals are the commonest items, and the test of the others stays a call of its own.
-pub fn item_takes(p: &[u8], x: u8, m: Mode) -> usize
+// How many bytes the first item of p is written with, where it is of one byte and accepts x.
+// Literals are the commonest items, and the test of the others is a call of its own.
+#[tactic(auto, unfolding(crate::specs::Items::taken, crate::specs::Items::taken_by, crate::specs::Items::is_literal, crate::specs::Patterns::read_item, crate::specs::Sharing::accepts))]
+pub fn item_takes(p: &[u8], x: u8, m: Mode) -> Option<usize>
     ensures { result ≡ taken m p.now x }
 {
-    if p.len() == 0 {
-        return 0;
+    match p {
+        [] => None,
+        [c, ..] if is_literal(*c) => same_letter(*c, x, m.fold).then_some(1),
+        _ => other_takes(p, x, m),
     }
-    let c = p[0];
-    if is_literal(c) {
-        return sized(same_letter(c, x, m.fold), 1);
-    }
-    other_takes(p, x, m)
 }

@@ -6,7 +6,7 @@ pub mod items;
 pub mod runs;
 
 // The two modes of a match.
-#[derive(Clone, Copy)]
+#[derive(Clone, Copy, Debug, PartialEq)]
 pub struct Mode {
     pub path: bool,
     pub fold: bool,

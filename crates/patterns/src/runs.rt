@@ -6,52 +6,33 @@ ghost use Rattle.patterns.specs.Patterns.{stars, starts_slash, component_ends, c
 pub fn star_count(p: &[u8]) -> usize
     ensures { result ≡ stars p.now }
 {
-    let mut i = 0;
-    while i < p.len() {
-        if p[i] != b'*' {
-            return i;
-        }
-        i += 1;
-    }
-    i
+    p.iter().position(|c| *c != b'*').unwrap_or(p.len())
 }
 
 // Whether an unescaped `/` is next.
+#[tactic(auto, unfolding(crate::specs::Patterns::starts_slash))]
 pub fn starts_slash(p: &[u8]) -> bool
     ensures { result ≡ starts_slash p.now }
 {
-    if p.len() == 0 {
-        return false;
-    }
-    p[0] == b'/'
+    p.first() == Some(&b'/')
 }
 
 // Whether the end, `/` or `\/` is next.
+#[tactic(auto, unfolding(crate::specs::Patterns::component_ends, crate::specs::Patterns::starts_slash))]
 pub fn component_ends(p: &[u8]) -> bool
     ensures { result ≡ component_ends p.now }
 {
-    if p.len() == 0 {
-        return true;
+    match p {
+        [] | [b'/', ..] => true,
+        [b'\\', rest @ ..] => starts_slash(rest),
+        _ => false,
     }
-    let x = p[0];
-    if x == b'/' {
-        return true;
-    }
-    if x == b'\\' {
-        return starts_slash(&p[1..]);
-    }
-    false
 }
 
 // Whether a run of n stars crosses, with p after it. `after`: it starts the pattern, or follows a byte `/`.
+#[tactic(auto, unfolding(crate::specs::Patterns::crosses))]
 pub fn run_crosses(after: bool, n: usize, p: &[u8]) -> bool
     ensures { result ≡ crosses after n p.now }
 {
-    if !after {
-        return false;
-    }
-    if n < 2 {
-        return false;
-    }
-    component_ends(p)
+    after && n >= 2 && component_ends(p)
 }

@@ -2,102 +2,98 @@
 use mathlib.Core.Path.{◌≡◌, refl, sym, subst, ◌∙◌}
 use mathlib.Core.Logic.Iff
 use mathlib.Core.Logic.{◌⊎◌, inl, inr, ⊎_elim, ◌↔◌}
-use mathlib.Core.Bool.{Bool, true, not}
-use mathlib.Core.List.Memᴰ
-use mathlib.Core.List.{List, [], ◌∷◌, Memᴰ}
-use Prim.Native.Nat.{ℕ, zero, suc, ◌+◌, ◌-◌, ◌<◌, ◌≤◌}
+use mathlib.Core.Bool.{Bool, true, false, not, ◌||◌, or-true}
+use mathlib.Core.List.{List, [], ◌∷◌}
+use Prim.Native.Nat.{ℕ, suc, ◌+◌, ◌-◌, ◌<◌, ◌≤◌}
 use native.Mathlib.Omega.{arith}
-use lib.Dec.{eqb}
-use lib.ListN.{length, get_or, drop, drop_of_length-le}
+use lib.Dec.{eqb, leb}
+use lib.ListN.{length, get_or}
+use Rattle.std.proofs.lemmas.Bool.{and_parts, or_cases, cases_lt}
 use Rattle.bytestrings.specs.Text.{char}
 use Rattle.refusals.specs.Limits.{files_limit}
 use Rattle.questionrefusals.specs.Conditions.{EndBelow, last_end, GoodBase, BaseMisplaced, BadLists}
-use Rattle.bytestrings.proofs.BoolLaws.{differs}
-use Rattle.bytestrings.proofs.SliceLaws.{next}
-
--- Ends: those from place i on, behind the last one passed, say the same as all.
-abbrev pub EndsSo : List ℕ → ℕ → ℕ → Type 0
-EndsSo ends last i = (EndBelow ends ↔ EndBelow (last ∷ drop i ends)) × (last_end ends ≡ last_end (last ∷ drop i ends))
+use Rattle.bytestrings.proofs.BoolLaws.{yes_iff, not_if_false, differs}
+use borrow.Author.Tests.{leb-true, le-leb}
+use Rattle.bytestrings.proofs.AnyLaws.{any_found}
+use Rattle.std.specs.Prelude.{Some}
+use Rattle.std.specs.Ordering.{is_le, is_some_and, nat_cmp}
+use Rattle.std.specs.Bool.{MatchBool}
+use Rattle.std.specs.List.{IsAllAdjacentAnswer, list_any}
+use Rattle.std.specs.List.Sorted.{IsNonDecreasing}
+use Rattle.std.proofs.lemmas.List.Sorted.{non_decreasing_from_is_sorted}
+use Rattle.questionrefusals.specs.inner.Scans.{base_bad}
+use native.Mathlib.Numerals.{add-one}
 
 pub last_zero : (ends : List ℕ) → last_end ends ≡ last_end (0 ∷ ends)
 last_zero [] = refl
 last_zero (e ∷ ends) = refl
 
--- an end in front that is not above the first
-below_front : (last : ℕ) (ends : List ℕ) → last ≤ get_or ends 0 last → EndBelow ends ↔ EndBelow (last ∷ ends)
-unfolding EndBelow
-below_front last [] h = (λ b. absurd (omega (arith, b.1)), λ b. absurd (omega (arith, b.1)))
-below_front last (e ∷ ends) h = (λ b. (suc b.0, omega (arith, b.1), b.2), λ b. back b.0 b.1 b.2)
-  where
-    back : (i : ℕ) → suc i < length (last ∷ e ∷ ends) → get_or (last ∷ e ∷ ends) (suc i) 0 < get_or (last ∷ e ∷ ends) i 0
-        → (i : ℕ) × (suc i < length (e ∷ ends)) × (get_or (e ∷ ends) (suc i) 0 < get_or (e ∷ ends) i 0)
-    back zero l b = absurd (omega arith)
-    back (suc i) l b = (i, omega arith, b)
+pub last_none : (ends : List ℕ) → length ends < 1 → 0 ≡ last_end ends
+last_none [] h = refl
+last_none (e ∷ ends) h = absurd (omega arith)
 
-pub ends_begin : (ends : List ℕ) → EndsSo ends 0 0
-ends_begin ends = (below_front 0 ends (omega arith), last_zero ends)
+pub last_some : (ends : List ℕ) → 1 ≤ length ends → get_or ends (length ends - 1) 0 ≡ last_end ends
+last_some [] h = absurd (omega arith)
+last_some (e ∷ []) h = refl
+last_some (e ∷ n ∷ ends) h = let q : length (e ∷ n ∷ ends) - 1 ≡ suc (length (n ∷ ends) - 1) = omega arith in rw q (last_some (n ∷ ends) (omega arith))
 
-module _ (ends : List ℕ) (last i : ℕ) (l : i < length ends) where
-  pub ends_next : last ≤ get_or ends i 0 → EndsSo ends last i → EndsSo ends (get_or ends i 0) (i + 1)
-  ends_next h s =
-      let t : EndsSo ends last i → (EndBelow ends ↔ EndBelow (last ∷ get_or ends i 0 ∷ drop (i + 1) ends)) × (last_end ends ≡ last_end (get_or ends i 0 ∷ drop (i + 1) ends)) =
-      λ s. subst (λ (d : List ℕ). (EndBelow ends ↔ EndBelow (last ∷ d)) × (last_end ends ≡ last_end (last ∷ d))) (next ends i l) s in
-      let f = below_front last (get_or ends i 0 ∷ drop (i + 1) ends) h in
-      (Iff.trans (t s).0 (f.1, f.0), (t s).1)
-
-  pub ends_fall : get_or ends i 0 < last → EndsSo ends last i → EndBelow ends
+-- Ends, by their order and by the last one.
+module _ (ends : List ℕ) (sorted : Bool) (d : IsAllAdjacentAnswer (λ x y b. is_some_and is_le (Some (nat_cmp x y)) ≡ b) ends sorted) where
+  ends_fall : sorted ≡ false → EndBelow ends
   unfolding EndBelow
-  ends_fall h s =
-      s.0.1 (subst (λ (d : List ℕ). EndBelow (last ∷ d)) (sym (next ends i l)) (0, omega arith, h))
+  ends_fall e =
+      let h : MatchBool false (IsNonDecreasing ends) ((k : ℕ) × (k + 1 < length ends) × ((d : ℕ) → get_or ends (k + 1) d < get_or ends k d)) =
+      subst (λ b. MatchBool b (IsNonDecreasing ends) ((k : ℕ) × (k + 1 < length ends) × ((d : ℕ) → get_or ends (k + 1) d < get_or ends k d))) e (non_decreasing_from_is_sorted ends sorted d) in
+      (h.0, omega (arith, h.1), rw (sym (add-one h.0)) (h.2 0))
 
-pub ends_end : (ends : List ℕ) (last i n : ℕ) → length ends ≤ i → EndsSo ends last i → (not (eqb last n) ≡ true) ↔ (EndBelow ends ⊎ (last_end ends ≡ n → ⊥))
-unfolding EndBelow
-ends_end ends last i n h s =
-    let t = subst (λ (d : List ℕ). (EndBelow ends ↔ EndBelow (last ∷ d)) × (last_end ends ≡ last_end (last ∷ d))) (drop_of_length-le ends {i = i} h) s in
-    Iff.trans (differs last n) (
-      λ b. inr (λ q. b (sym t.1 ∙ q)),
-      λ b. ⊎_elim (λ e. absurd (omega (arith, (t.0.0 e).1))) (λ e q. e (t.1 ∙ q)) b,
-    )
+  ends_rise : sorted ≡ true → EndBelow ends → ⊥
+  unfolding EndBelow
+  ends_rise e b =
+      let h : IsNonDecreasing ends =
+      subst (λ b. MatchBool b (IsNonDecreasing ends) ((k : ℕ) × (k + 1 < length ends) × ((d : ℕ) → get_or ends (k + 1) d < get_or ends k d))) e (non_decreasing_from_is_sorted ends sorted d) in
+      omega (arith, b.2, h b.0 (suc b.0) 0 (omega arith) b.1)
 
--- A base, by the tests in their order.
-pub base_top : (path : List ℕ) (base : ℕ) → base ≡ 0 → (GoodBase path base → ⊥) → ⊥
-base_top path base e n = n (inl e)
+  pub ends_unsorted : sorted ≡ false → (n : ℕ) → (not sorted ≡ true) ↔ (EndBelow ends ⊎ (last_end ends ≡ n → ⊥))
+  ends_unsorted e n = (λ q. inl (ends_fall e), λ b. rw e)
 
-module _ (path : List ℕ) (base : ℕ) (n : base ≡ 0 → ⊥) where
-  pub base_past : length path ≤ base → GoodBase path base → ⊥
-  base_past h g = ⊎_elim n (λ p. omega (arith, p.0)) g
+  pub ends_sorted : sorted ≡ true → (n last : ℕ) → last ≡ last_end ends → (not (eqb last n) ≡ true) ↔ (EndBelow ends ⊎ (last_end ends ≡ n → ⊥))
+  ends_sorted e n last q =
+      Iff.trans (differs last n) (λ b. inr (λ h. b (q ∙ h)), λ b. ⊎_elim (λ f. absurd (ends_rise e f)) (λ f h. f (sym q ∙ h)) b)
 
-  pub base-within : base < length path → (not (eqb (get_or path (base - 1) 0) (char "/")) ≡ true) ↔ (GoodBase path base → ⊥)
-  base-within h = Iff.trans (differs (get_or path (base - 1) 0) (char "/")) (λ d g. ⊎_elim n (λ p. d p.1) g, λ d e. d (inr (h, e)))
+-- A base, by its test.
+base_means : (path : List ℕ) (base : ℕ) → (base_bad path base ≡ true) ↔ (GoodBase path base → ⊥)
+unfolding base_bad
+base_means path base = (
+  λ e g. let p = and_parts (not (eqb base 0)) (leb (length path) base || not (eqb (get_or path (base - 1) 0) (char "/"))) e in
+      ⊎_elim ((differs base 0).0 p.0)
+      (λ h. ⊎_elim (λ (q : leb (length path) base ≡ true). omega (arith, h.0, leb-true (length path) base q)) (λ q. (differs _ _).0 q h.1) (or_cases _ _ p.1))
+      g,
+  λ n. let zero : base ≡ 0 → ⊥ = λ e. n (inl e) in
+      rw ((differs base 0).1 zero)
+      (⊎_elim (λ l. rw ((differs _ (char "/")).1 (λ e. n (inr (l, e)))) (or-true (leb (length path) base))) (λ l. rw (le-leb (length path) base l)) (cases_lt base (length path))),
+)
 
--- Bases: those from place i on say the same as all.
-module _ (path bases : List ℕ) (i : ℕ) where
-  pub base_here : i < length bases → (GoodBase path (get_or bases i 0) → ⊥) → BaseMisplaced path (drop i bases)
-  unfolding BaseMisplaced
-  base_here l b = subst (λ (d : List ℕ). BaseMisplaced path d) (sym (next bases i l)) (get_or bases i 0, Memᴰ.head refl, b)
-
-  pub base_good : i < length bases → ((GoodBase path (get_or bases i 0) → ⊥) → ⊥) → BaseMisplaced path (drop i bases) ↔ BaseMisplaced path (drop (i + 1) bases)
-  unfolding BaseMisplaced
-  base_good l g =
-      subst (λ (d : List ℕ). BaseMisplaced path d ↔ BaseMisplaced path (drop (i + 1) bases)) (sym (next bases i l)) (
-        λ b. ⊎_elim (λ e. absurd (g (subst (λ (x : ℕ). GoodBase path x → ⊥) e b.2))) (λ m. (b.0, m, b.2)) (Memᴰ.cases_cons b.1),
-        λ b. (b.0, Memᴰ.tail b.1, b.2),
-      )
-
-  pub base_none : length bases ≤ i → BaseMisplaced path (drop i bases) → ⊥
-  unfolding BaseMisplaced
-  base_none h b = Memᴰ.not-nil (subst (λ (d : List ℕ). Memᴰ b.0 d) (drop_of_length-le bases {i = i} h) b.1)
+bases_mean : (path bases : List ℕ) (r : Bool) → r ≡ list_any (base_bad path) bases → (r ≡ true) ↔ BaseMisplaced path bases
+unfolding BaseMisplaced
+bases_mean path bases r e = any_found (base_bad path) (λ b. GoodBase path b → ⊥) (base_means path) bases r e
 
 -- The two lists, by the tests in their order.
 module _ (path rules ends bases : List ℕ) where
-  pub lists-ends : EndBelow ends ⊎ (last_end ends ≡ length rules → ⊥) → BadLists path rules ends bases
+  pub lists_long : files_limit < length ends → (true ≡ true) ↔ BadLists path rules ends bases
   unfolding BadLists
-  lists-ends b = inr (inr (⊎_elim (λ e. inl e) (λ e. inr (inl e)) b))
+  lists_long h = yes_iff (inr (inl h))
 
-  pub lists-bases : (r : Bool) → length ends ≡ length bases → length ends ≤ files_limit → (EndBelow ends ⊎ (last_end ends ≡ length rules → ⊥) → ⊥)
-      → (r ≡ true) ↔ BaseMisplaced path bases → (r ≡ true) ↔ BadLists path rules ends bases
-  unfolding BadLists
-  lists-bases r l f e d = (
-    λ h. inr (inr (inr (inr (d.0 h)))),
-    λ b. ⊎_elim (λ x. absurd (x l)) (λ b. ⊎_elim (λ x. absurd (omega arith)) (λ b. ⊎_elim (λ x. absurd (e (inl x))) (λ b. ⊎_elim (λ x. absurd (e (inr x))) d.1 b) b) b) b,
-  )
+  module _ (e : Bool) (d : (e ≡ true) ↔ (EndBelow ends ⊎ (last_end ends ≡ length rules → ⊥))) where
+    pub lists_ends : e ≡ true → (true ≡ true) ↔ BadLists path rules ends bases
+    unfolding BadLists
+    lists_ends h = yes_iff (inr (inr (⊎_elim (λ b. inl b) (λ b. inr (inl b)) (d.0 h))))
+
+    pub lists_bases : length ends ≡ length bases → length ends ≤ files_limit → e ≡ false → (r : Bool) → r ≡ list_any (base_bad path) bases
+        → (r ≡ true) ↔ BadLists path rules ends bases
+    unfolding BadLists
+    lists_bases l f h r g =
+        let fine = not_if_false d h in
+        let m = bases_mean path bases r g in (
+          λ q. inr (inr (inr (inr (m.0 q)))),
+          λ b. ⊎_elim (λ x. absurd (x l)) (λ b. ⊎_elim (λ x. absurd (omega arith)) (λ b. ⊎_elim (λ x. absurd (fine (inl x))) (λ b. ⊎_elim (λ x. absurd (fine (inr x))) m.1 b) b) b) b,
+        )

@@ -4,21 +4,23 @@ use mathlib.Core.Logic.{⊎_elim, ◌↔◌}
 use mathlib.Core.Bool.{Bool, true, false, cond}
 use mathlib.Core.List.Memᴰ
 use mathlib.Core.List.{List, [], ◌∷◌, ◌++◌, Memᴰ}
-use Prim.Native.Nat.{ℕ, zero, suc, ◌+◌, ◌-◌, ◌<◌, ◌≤◌}
+use Prim.Native.Nat.{ℕ, zero, suc, ◌+◌, ◌<◌, ◌≤◌}
 use native.Mathlib.Numerals.{add-one}
 use native.Mathlib.Omega.{arith}
 use lib.Dec.{eqb}
-use lib.ListN.{length, get_or, take, drop, length-drop, length-take, drop_of_length-le}
-use lib.Seq.{length-take-le, split_at, get_or-drop, drop-drop}
+use lib.ListN.{length, get_or, take, drop, length-take, drop_of_length-le}
+use lib.Seq.{length-take-le, split_at}
+use Rattle.std.proofs.lemmas.Bool.{cases_lt}
+use Rattle.std.proofs.lemmas.List.{get_or-take}
 use borrow.Author.Tests.{ne_eqb}
 use Rattle.bytestrings.specs.Text.{newline}
 use Rattle.rulefiles.specs.RuleFiles.{File, onto, split, line_length, bytes_between, files_from, files}
 use Rattle.rulefiles.proofs.LineLaws.{split_first, line_fits}
 use Rattle.refusals.specs.Limits.{line_limit}
 use Rattle.questionrefusals.specs.Conditions.{LongLine}
-use Rattle.questionrefusals.specs.inner.Scans.{LongIn, AfterNewline}
-use Rattle.bytestrings.proofs.OrderLaws.{before_or_not}
-use Rattle.bytestrings.proofs.SliceLaws.{next}
+use Rattle.questionrefusals.specs.inner.Scans.{LongIn, LastNewline}
+use Rattle.std.specs.Prelude.{Option, None, Some, min}
+use Rattle.bytestrings.proofs.SliceLaws.{next, from, from-drop}
 
 abbrev Within : List (List ℕ) → ℕ → Type 0
 Within ls n = (l : List ℕ) → Memᴰ l ls → length l ≤ n
@@ -82,75 +84,67 @@ far [] m h n = h
 far (b ∷ d) zero h n = omega arith
 far (b ∷ d) (suc m) h n = rw (ne_eqb b newline (n 0 (omega arith))) (omega (arith, far d m (omega arith) (λ k l. n (suc k) (omega arith))))
 
--- The same from a place of a file on.
-module _ (s : List ℕ) (at : ℕ) where
-  pub long_over : at ≤ length s → length s - at ≤ line_limit → LongIn (drop at s) → ⊥
-  long_over l h = long_none (drop at s) (simp length-drop h)
+-- The same by what a search for the last newline gives in one byte more than the limit.
+pub long_over : (s : List ℕ) → length s ≤ line_limit → LongIn s → ⊥
+long_over s h = long_none s h
 
-  module _ (to : ℕ) (l : line_limit < length s - at) (k : AfterNewline s at (at + line_limit + 1) to) where
-    pub long_here : to ≡ at → LongIn (drop at s)
-    long_here e =
-        long_first (drop at s)
-        (far (drop at s) (line_limit + 1) (simp length-drop (omega arith)) (λ i h q. k.not_found e (at + i) (omega arith) (omega arith) (sym (get_or-drop at s i 0) ∙ q)))
+pub found_within : (w s : List ℕ) (r : Option ℕ) (n : ℕ) → LastNewline w r → r ≡ Some n → length w ≤ length s → n + 1 ≤ length s
+found_within w s r n h e l = let g : LastNewline w (Some n) = subst (LastNewline w) e h in omega (arith, g.0)
 
-    pub long_skip : (to ≡ at → ⊥) → LongIn (drop at s) ↔ LongIn (drop to s)
-    long_skip n =
-        let a : at < to = omega (arith, k.from) in
-        let j = to - at - 1 in
-        let e : at + j ≡ to - 1 = omega arith in
-        let f : at + suc j ≡ to = omega arith in
-        let t : to ≤ at + line_limit + 1 = k.to in
-        let g : get_or (drop at s) j 0 ≡ newline = get_or-drop at s j 0 ∙ ap (λ (i : ℕ). get_or s i 0) e ∙ k.found a in
-        let p : drop at s ≡ take j (drop at s) ++ newline ∷ drop to s =
-        split_at (drop at s) j 0 (simp length-drop (omega arith)) ∙ ap (λ (x : ℕ). take j (drop at s) ++ x ∷ drop (suc j) (drop at s)) g
-        ∙ ap (λ (q : List ℕ). take j (drop at s) ++ newline ∷ q) (drop-drop (suc j) at s ∙ ap (λ (i : ℕ). drop i s) f) in
-        subst (λ (q : List ℕ). LongIn q ↔ LongIn (drop to s)) (sym p) (long_behind (take j (drop at s)) (drop to s) (simp length-take (omega arith)))
+module _ (s : List ℕ) (l : line_limit < length s) where
+  pub long_here : LastNewline (take (line_limit + 1) s) None → LongIn s
+  long_here none =
+      long_first s (far s (line_limit + 1) (omega arith)
+      (λ i h q. none i (simp length-take (omega arith)) (get_or-take (line_limit + 1) s i 0 h ∙ q)))
+
+  pub long_skip : (n : ℕ) → LastNewline (take (line_limit + 1) s) (Some n) → LongIn s ↔ LongIn (from (n + 1) s)
+  long_skip n found =
+      let w : n < line_limit + 1 = omega (arith, found.0, length-take (line_limit + 1) s) in
+      let p : s ≡ take n s ++ newline ∷ drop (suc n) s =
+      split_at s n 0 (omega arith) ∙ ap (λ (x : ℕ). take n s ++ x ∷ drop (suc n) s) (sym (get_or-take (line_limit + 1) s n 0 w) ∙ found.1) in
+      rw (add-one n, from-drop (suc n) s) (subst (λ (q : List ℕ). LongIn q ↔ LongIn (drop (suc n) s)) (sym p) (long_behind (take n s) (drop (suc n) s) (simp length-take (omega arith))))
 
 -- The files, one after the other.
 unfoldable pub LongFiles : List File → Type 0
 LongFiles fs = (f : File) × Memᴰ f fs × LongIn f.bytes
 
-pub files_begin : (rules ends bases : List ℕ) → LongLine rules ends bases ↔ LongFiles (files_from 0 0 rules (drop 0 ends) (drop 0 bases))
-unfolding LongLine LongIn LongFiles files
-files_begin rules ends bases = (λ p. p, λ p. p)
+module _ (rules ends bases : List ℕ) where
+  pub files_begin : LongLine rules ends bases ↔ LongFiles (files_from 0 0 rules ends bases)
+  unfolding LongLine LongIn LongFiles files
+  files_begin = (λ p. p, λ p. p)
 
-module _ (rules ends bases : List ℕ) (start i : ℕ) where
-  pub files_past : length ends ≤ i → LongFiles (files_from i start rules (drop i ends) (drop i bases)) → ⊥
-  unfolding LongFiles
-  files_past h p =
-      Memᴰ.not-nil (subst (λ (es : List ℕ). Memᴰ p.0 (files_from i start rules es (drop i bases))) (drop_of_length-le ends {i = i} h) p.1)
-
-  module _ (l : i < length ends) where
-    pub files_bare : length bases ≤ i → LongFiles (files_from i start rules (drop i ends) (drop i bases)) → ⊥
+  module _ (start i : ℕ) where
+    files_bare : i < length ends → length bases ≤ i → LongFiles (files_from i start rules (drop i ends) (drop i bases)) → ⊥
     unfolding LongFiles
-    files_bare h p =
+    files_bare l h p =
         let e : files_from i start rules (drop i ends) (drop i bases) ≡ [] = rw (next ends i l, drop_of_length-le bases {i = i} h) in
         Memᴰ.not-nil (subst (λ (fs : List File). Memᴰ p.0 fs) e p.1)
 
-    module _ (m : i < length bases) where
-      file : files_from i start rules (drop i ends) (drop i bases)
-          ≡ record { number = i; base = get_or bases i 0; start = start; bytes = bytes_between start (get_or ends i 0) rules }
-          ∷ files_from (i + 1) (get_or ends i 0) rules (drop (i + 1) ends) (drop (i + 1) bases)
-      file = rw (next ends i l, next bases i m, add-one i)
+    pub files_past : i ≡ min (length ends) (length bases) → LongFiles (files_from i start rules (drop i ends) (drop i bases)) → ⊥
+    unfolding LongFiles
+    files_past h p =
+        ⊎_elim
+        (λ l. files_bare l (omega (arith, h, l)) p)
+        (λ l. Memᴰ.not-nil (subst (λ (es : List ℕ). Memᴰ p.0 (files_from i start rules es (drop i bases))) (drop_of_length-le ends {i = i} l) p.1))
+        (cases_lt i (length ends))
 
-      pub file_long : LongIn (bytes_between start (get_or ends i 0) rules) → LongFiles (files_from i start rules (drop i ends) (drop i bases))
+    module _ (end : ℕ) (l : i < length ends) (m : i < length bases) (q : end ≡ get_or ends i 0) where
+      file : files_from i start rules (drop i ends) (drop i bases)
+          ≡ record { number = i; base = get_or bases i 0; start = start; bytes = bytes_between start end rules }
+          ∷ files_from (i + 1) end rules (drop (i + 1) ends) (drop (i + 1) bases)
+      file = rw (next ends i l, next bases i m, add-one i, q)
+
+      pub file_long : LongIn (bytes_between start end rules) → LongFiles (files_from i start rules (drop i ends) (drop i bases))
       unfolding LongFiles
       file_long h =
           subst (λ (fs : List File). LongFiles fs) (sym file)
-          (record { number = i; base = get_or bases i 0; start = start; bytes = bytes_between start (get_or ends i 0) rules }, Memᴰ.head refl, h)
+          (record { number = i; base = get_or bases i 0; start = start; bytes = bytes_between start end rules }, Memᴰ.head refl, h)
 
-      pub file_fine : (LongIn (bytes_between start (get_or ends i 0) rules) → ⊥)
-          → LongFiles (files_from i start rules (drop i ends) (drop i bases)) ↔ LongFiles (files_from (i + 1) (get_or ends i 0) rules (drop (i + 1) ends) (drop (i + 1) bases))
+      pub file_fine : (LongIn (bytes_between start end rules) → ⊥)
+          → LongFiles (files_from i start rules (drop i ends) (drop i bases)) ↔ LongFiles (files_from (i + 1) end rules (drop (i + 1) ends) (drop (i + 1) bases))
       unfolding LongFiles
       file_fine n =
-          subst (λ (fs : List File). LongFiles fs ↔ LongFiles (files_from (i + 1) (get_or ends i 0) rules (drop (i + 1) ends) (drop (i + 1) bases))) (sym file) (
+          subst (λ (fs : List File). LongFiles fs ↔ LongFiles (files_from (i + 1) end rules (drop (i + 1) ends) (drop (i + 1) bases))) (sym file) (
             λ p. ⊎_elim (λ e. absurd (n (subst (λ (f : File). LongIn f.bytes) e p.2))) (λ m. (p.0, m, p.2)) (Memᴰ.cases_cons p.1),
             λ p. (p.0, Memᴰ.tail p.1, p.2),
           )
-
--- The scan for a newline from the end back.
-pub newline_other : (s : List ℕ) (end i : ℕ) → 0 < i → (get_or s (i - 1) 0 ≡ newline → ⊥) → ((k : ℕ) → k < end → i ≤ k → get_or s k 0 ≡ newline → ⊥) →
-    (k : ℕ) → k < end → i - 1 ≤ k → get_or s k 0 ≡ newline
-    → ⊥
-newline_other s end i p n f k l h e =
-    ⊎_elim (λ b. let q : k ≡ i - 1 = omega arith in n (ap (λ (j : ℕ). get_or s j 0) (sym q) ∙ e)) (λ b. f k l b e) (before_or_not k i)

@@ -1,9 +1,9 @@
 // Refusals 3 and 5: the rule bytes and their lines.
-ghost use Rattle.std.specs.Prelude.{◌≡◌, ◌↔◌, true, ◌≤◌, length};
+ghost use Rattle.std.specs.Prelude.{◌≡◌, ◌↔◌, true};
 ghost use Rattle.questionrefusals.specs.Conditions.{RulesLong, LongLine};
-ghost use Rattle.questionrefusals.specs.inner.Scans.{LongIn, AfterNewline};
+ghost use Rattle.questionrefusals.specs.inner.Scans.{LongIn, LastNewline};
 
-use rulefiles::file_part;
+use rulefiles::{RuleFiles, file_part};
 
 const RULES_LIMIT: usize = 65536;
 
@@ -16,20 +16,11 @@ pub fn rules_long(rules: &[u8]) -> bool
     RULES_LIMIT < rules.len()
 }
 
-// The place just after the last newline from `at` on and before `end`, or `at` where there is none.
-fn after_newline(file: &[u8], at: usize, end: usize) -> usize
-    requires { (at ≤ end) × (end ≤ length file.now) }
-    ensures { AfterNewline file.now at end result }
+// The place of the last newline, if there is one.
+fn last_newline(bytes: &[u8]) -> Option<usize>
+    ensures { LastNewline bytes.now result }
 {
-    let mut i = end;
-    while at < i {
-        let before = i - 1;
-        if file[before] == b'\n' {
-            return i;
-        }
-        i = before;
-    }
-    at
+    bytes.iter().rposition(|b| *b == b'\n')
 }
 
 // Whether a line of the file is over its limit. A newline among one byte more than the limit shows that the lines before it are not,
@@ -37,33 +28,26 @@ fn after_newline(file: &[u8], at: usize, end: usize) -> usize
 fn long_in(file: &[u8]) -> bool
     ensures { (result ≡ true) ↔ LongIn file.now }
 {
-    let mut at = 0;
-    while LINE_LIMIT < file.len() - at {
-        let next = after_newline(file, at, at + LINE_LIMIT + 1);
-        if next == at {
-            return true;
+    let mut rest = file;
+    while LINE_LIMIT < rest.len() {
+        match last_newline(&rest[..LINE_LIMIT + 1]) {
+            Some(newline) => rest = &rest[newline + 1..],
+            None => return true,
         }
-        at = next;
     }
     false
 }
 
 // Whether a line of one of the files is over its limit.
-pub fn line_long(rules: &[u8], ends: &[usize], bases: &[usize]) -> bool
-    ensures { (result ≡ true) ↔ LongLine rules.now ends.now bases.now }
+pub fn line_long(files: &RuleFiles) -> bool
+    ensures { (result ≡ true) ↔ LongLine files.now.rules.now files.now.ends.now files.now.bases.now }
 {
     let mut start = 0;
-    let mut i = 0;
-    while i < ends.len() {
-        if bases.len() <= i {
-            return false;
-        }
-        let end = ends[i];
-        if long_in(file_part(rules, start, end)) {
+    for (end, _) in files.ends.iter().zip(files.bases) {
+        if long_in(file_part(files.rules, start, *end)) {
             return true;
         }
-        start = end;
-        i += 1;
+        start = *end;
     }
     false
 }

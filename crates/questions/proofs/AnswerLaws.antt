@@ -1,14 +1,14 @@
 -- Each answer of the two questions is as specs/Answers.antt has it.
 use Prim.Native.Nat.{ℕ, ◌≤◌}
-use mathlib.Core.Path.{◌≡◌, ap, subst, ◌∙◌}
-use mathlib.Core.Option.{Option}
+use mathlib.Core.Path.{◌≡◌, refl, ap, subst, ◌∙◌}
+use Rattle.std.specs.Prelude.{Option, Err}
 use mathlib.Core.Logic.{◌↔◌}
 use mathlib.Core.Bool.{Bool}
 use mathlib.Core.List.{List}
 use Rattle.refusals.specs.Refusals.{Lowest, Accepted, LowestOrNone}
 use Rattle.questionrefusals.specs.Conditions.{IgnoreRefuses, AttributeRefuses}
 use Rattle.refusals.proofs.LowestLaws.{lowest_one, lowest_refuses}
-use Rattle.rulefiles.specs.Decisions.{Decision}
+use Rattle.rulefiles.specs.declared.Decision.{Decision}
 use Rattle.attributelines.specs.declared.State.{State}
 use Rattle.rulefiles.specs.RuleFiles.{ordered_lines}
 use Rattle.refusals.specs.Flags.{flag_one, flag_two}
@@ -16,8 +16,9 @@ use Rattle.verdicts.specs.Verdicts.{verdict, attribute_state, parents, top_down}
 use Rattle.questions.specs.Answers.{path_entry, folds, ignore_answer, attribute_answer, IgnoreAnswered, AttributeAnswered}
 use Rattle.verdicts.specs.Verdicts.{state_answer}
 use Rattle.answers.specs.Complete.{Complete, refusal, complete_ignore, complete_attribute}
-use Rattle.answers.specs.declared.IgnoreAnswer.TheVariants.{Refused}
-use Rattle.answers.specs.declared.AttributeAnswer.TheVariants.{Refused as AttributeRefused}
+use Rattle.refusals.specs.declared.refusal.Refusal.{Refusal}
+use Rattle.refusals.specs.Numbers.{number_of, found_number}
+use Rattle.refusals.proofs.NumberLaws.{numbered}
 use Rattle.verdicts.proofs.VerdictLaws.{entry_of}
 use Rattle.answers.proofs.CompleteLaws.{refusal_one, small_not_refused}
 use Rattle.questions.proofs.SmallLaws.{top_down_small, state-answer-small}
@@ -31,21 +32,21 @@ module _ (C : ℕ → Type 0) where
   not_refused a small h n = (λ e. absurd (small_not_refused a n small e), λ l. absurd (lowest_refuses C n l h))
 
 module _ (path rules ends bases : List ℕ) (flags : ℕ) where
-  pub ignore_refused : (k : ℕ) → LowestOrNone (IgnoreRefuses path rules ends bases flags) k → (k ≡ 0 → ⊥) → IgnoreAnswered path rules ends bases flags (complete_ignore (Refused k))
+  pub ignore_refused : (r : Refusal) → LowestOrNone (IgnoreRefuses path rules ends bases flags) (number_of r) → IgnoreAnswered path rules ends bases flags (complete_ignore (Err r))
   unfolding complete_ignore
-  ignore_refused k f n =
-      let l = f.lowest n in
+  ignore_refused r f =
+      let l = f.lowest (numbered r) in
       record {
-        refused = refused_by (IgnoreRefuses path rules ends bases flags) k l;
-        accepted = λ a. absurd (lowest_refuses (IgnoreRefuses path rules ends bases flags) k l a);
+        refused = refused_by (IgnoreRefuses path rules ends bases flags) (number_of r) l;
+        accepted = λ a. absurd (lowest_refuses (IgnoreRefuses path rules ends bases flags) (number_of r) l a);
       }
 
-  pub ignore_answered : (k : ℕ) (directory fold : Bool) (answer : Complete) → LowestOrNone (IgnoreRefuses path rules ends bases flags) k → k ≡ 0
+  pub ignore_answered : (directory fold : Bool) (answer : Complete) → LowestOrNone (IgnoreRefuses path rules ends bases flags) 0
       → directory ≡ flag_one flags → fold ≡ flag_two flags
       → answer ≡ top_down (verdict fold (ordered_lines rules ends bases)) (parents path) (entry_of path directory) → IgnoreAnswered path rules ends bases flags answer
   unfolding ignore_answer path_entry folds
-  ignore_answered k directory fold answer f z d g e =
-      let h = f.accepted z in
+  ignore_answered directory fold answer f d g e =
+      let h = f.accepted refl in
       let v = verdict fold (ordered_lines rules ends bases) in
       record {
         refused = not_refused (IgnoreRefuses path rules ends bases flags) answer (rw e (top_down_small v (parents path) (entry_of path directory))) h;
@@ -53,23 +54,24 @@ module _ (path rules ends bases : List ℕ) (flags : ℕ) where
       }
 
 module _ (path rules ends bases name : List ℕ) (flags : ℕ) where
-  pub attribute_refused : (k : ℕ) → LowestOrNone (AttributeRefuses path rules ends bases name flags) k → (k ≡ 0 → ⊥)
-      → AttributeAnswered path rules ends bases name flags (complete_attribute (AttributeRefused k))
+  pub attribute_refused : (r : Refusal) → LowestOrNone (AttributeRefuses path rules ends bases name flags) (number_of r)
+      → AttributeAnswered path rules ends bases name flags (complete_attribute (Err r))
   unfolding complete_attribute
-  attribute_refused k f n =
-      let l = f.lowest n in
+  attribute_refused r f =
+      let l = f.lowest (numbered r) in
       record {
-        refused = refused_by (AttributeRefuses path rules ends bases name flags) k l;
-        accepted = λ a. absurd (lowest_refuses (AttributeRefuses path rules ends bases name flags) k l a);
+        refused = refused_by (AttributeRefuses path rules ends bases name flags) (number_of r) l;
+        accepted = λ a. absurd (lowest_refuses (AttributeRefuses path rules ends bases name flags) (number_of r) l a);
       }
 
-  pub attribute_answered : (k : ℕ) (directory fold : Bool) (last : Option (Decision State)) (answer : Complete) → LowestOrNone (AttributeRefuses path rules ends bases name flags) k → k ≡ 0
+  pub attribute_answered : (directory fold : Bool) (answer : Complete) → LowestOrNone (AttributeRefuses path rules ends bases name flags) 0
       → directory ≡ flag_one flags → fold ≡ flag_two flags
-      → last ≡ attribute_state fold name (ordered_lines rules ends bases) (entry_of path directory) → answer ≡ state_answer last → AttributeAnswered path rules ends bases name flags answer
+      → answer ≡ state_answer (attribute_state fold name (ordered_lines rules ends bases) (entry_of path directory)) → AttributeAnswered path rules ends bases name flags answer
   unfolding attribute_answer path_entry folds
-  attribute_answered k directory fold last answer f z d g e q =
-      let h = f.accepted z in
+  attribute_answered directory fold answer f d g e =
+      let h = f.accepted refl in
+      let last = attribute_state fold name (ordered_lines rules ends bases) (entry_of path directory) in
       record {
-        refused = not_refused (AttributeRefuses path rules ends bases name flags) answer (rw q (state-answer-small last)) h;
-        accepted = λ a. q ∙ ap state_answer e ∙ rw (d, g);
+        refused = not_refused (AttributeRefuses path rules ends bases name flags) answer (rw e (state-answer-small last)) h;
+        accepted = λ a. e ∙ rw (d, g);
       }

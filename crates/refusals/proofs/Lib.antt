@@ -1,2 +1,3 @@
 -- Laws that the crates above cite too.
 pub mod LowestLaws
+pub mod NumberLaws

@@ -8,8 +8,7 @@ use Prim.Native.Nat.{ℕ, zero, suc, ◌<◌}
 use native.Mathlib.Omega.{arith}
 use lib.Dec.{ltb}
 use borrow.Author.Tests.{ltb-true}
-use Rattle.bytestrings.proofs.OrderLaws.{before_or_not}
-use Rattle.bytestrings.proofs.BoolLaws.{and_split}
+use Rattle.std.proofs.lemmas.Bool.{and_parts, cases_lt}
 use Rattle.refusals.specs.Refusals.{TooLong, HoldsZero, FlagsHigh, Lowest, Accepted, LowestOrNone, MatcherRefuses}
 use Rattle.refusals.specs.inner.Checks.{Checks, done, check, FirstHolding}
 
@@ -17,7 +16,7 @@ use Rattle.refusals.specs.inner.Checks.{Checks, done, check, FirstHolding}
 pub lowest_one : (C : ℕ → Type 0) (n k : ℕ) → Lowest C n → Lowest C k → n ≡ k
 unfolding Lowest
 lowest_one C n k a b =
-    ⊎_elim (λ l. absurd (b.1 n l a.0)) (λ l. ⊎_elim (λ h. absurd (a.1 k h b.0)) (λ h. omega arith) (before_or_not k n)) (before_or_not n k)
+    ⊎_elim (λ l. absurd (b.1 n l a.0)) (λ l. ⊎_elim (λ h. absurd (a.1 k h b.0)) (λ h. omega arith) (cases_lt k n)) (cases_lt n k)
 
 pub lowest_refuses : (C : ℕ → Type 0) (n : ℕ) → Lowest C n → Accepted C → ⊥
 unfolding Lowest Accepted
@@ -53,7 +52,7 @@ any_cons k P (check j Q cs) n = Iff.rfl
 above : (cs : Checks) (j n : ℕ) → rises j cs ≡ true → Any cs n → j < n
 above done j n r a = absurd a
 above (check k P cs) j n r a =
-    let p = and_split (ltb j k) (rises k cs) r in
+    let p = and_parts (ltb j k) (rises k cs) r in
     let l = ltb-true j k p.0 in
     ⊎_elim (λ e. omega (arith, e.0)) (λ b. omega (arith, above cs k n p.1 b)) ((any_cons k P cs n).0 a)
 
@@ -61,14 +60,14 @@ pub holding_found : (cs : Checks) (j n : ℕ) → rises j cs ≡ true → FirstH
 unfolding Lowest Accepted
 holding_found done j n r t = record { lowest = λ q. absurd (q t); accepted = λ q k a. a }
 holding_found (check k P cs) j n r (inl h) =
-    let p = and_split (ltb j k) (rises k cs) r in
+    let p = and_parts (ltb j k) (rises k cs) r in
     let l = ltb-true j k p.0 in
     record {
       lowest = λ q. ((any_cons k P cs n).1 (inl h), λ i b a. ⊎_elim (λ e. omega (arith, e.0, h.0)) (λ c. omega (arith, h.0, above cs k i p.1 c)) ((any_cons k P cs i).0 a));
       accepted = λ q. absurd (omega (arith, h.0));
     }
 holding_found (check k P cs) j n r (inr h) =
-    let f = holding_found cs k n (and_split (ltb j k) (rises k cs) r).1 h.1 in
+    let f = holding_found cs k n (and_parts (ltb j k) (rises k cs) r).1 h.1 in
     record {
       lowest = λ q. let l = f.lowest q in ((any_cons k P cs n).1 (inr l.0), λ i b a. ⊎_elim (λ e. h.0 e.1) (l.1 i b) ((any_cons k P cs i).0 a));
       accepted = λ q i a. ⊎_elim (λ e. h.0 e.1) (f.accepted q i) ((any_cons k P cs i).0 a);
@@ -86,8 +85,8 @@ holding_first (check k P cs) us n (inr h) q = inr (h.0, holding_first cs us n h.
 
 pub holding_second : (cs us : Checks) (j m n : ℕ) → rises j cs ≡ true → FirstHolding cs m → m ≡ 0 → FirstHolding us n → FirstHolding (followed cs us) n
 holding_second done us j m n r t q u = u
-holding_second (check k P cs) us j m n r (inl h) q u = absurd (omega (arith, h.0, ltb-true j k (and_split (ltb j k) (rises k cs) r).0))
-holding_second (check k P cs) us j m n r (inr h) q u = inr (h.0, holding_second cs us k m n (and_split (ltb j k) (rises k cs) r).1 h.1 q u)
+holding_second (check k P cs) us j m n r (inl h) q u = absurd (omega (arith, h.0, ltb-true j k (and_parts (ltb j k) (rises k cs) r).0))
+holding_second (check k P cs) us j m n r (inr h) q u = inr (h.0, holding_second cs us k m n (and_parts (ltb j k) (rises k cs) r).1 h.1 q u)
 
 -- a check among others may stand last
 pub any_last : (cs : Checks) (k : ℕ) (P : Type 0) (us : Checks) (n : ℕ) → Any (followed cs (check k P us)) n ↔ Any (followed cs us) n ⊎ ((n ≡ k) × P)

@@ -2,5 +2,6 @@
 pub mod Limits
 pub mod Flags
 pub mod Refusals
+pub mod Numbers
 -- Inner definitions, none of which a public contract cites:
 pub mod inner

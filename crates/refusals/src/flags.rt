@@ -1,6 +1,6 @@
 // Refusal 9, and the two flags in a flags number.
-ghost use Rattle.std.specs.Prelude.{◌≡◌, ◌↔◌, true};
-ghost use Rattle.refusals.specs.Flags.{flag_one, flag_two};
+ghost use Rattle.std.specs.Prelude.{◌≡◌, ◌↔◌, ◌||◌, true, eqb};
+ghost use Rattle.refusals.specs.Flags.{sum_of, flag_one, flag_two};
 ghost use Rattle.refusals.specs.Refusals.{FlagsHigh};
 
 const FLAGS_LIMIT: u64 = 3;
@@ -12,16 +12,25 @@ pub fn flags_high(flags: u64) -> bool
     FLAGS_LIMIT < flags
 }
 
-// Whether the flag 1 is in a flags number; 3 has both flags, and a number above it none.
+// Whether a flag is in a flags number; 3 has both flags, and a number above it none.
+fn has_flag<const FLAG: u64>(flags: u64) -> bool
+    ensures { result ≡ (eqb flags FLAG || eqb flags (sum_of true true)) }
+{
+    flags == FLAG || flags == 3
+}
+
+// Whether the flag 1 is in a flags number.
+#[tactic(auto, unfolding(crate::specs::Flags::flag_one))]
 pub fn flag_one(flags: u64) -> bool
     ensures { result ≡ flag_one flags }
 {
-    flags == 1 || flags == 3
+    has_flag::<1>(flags)
 }
 
 // Whether the flag 2 is in it.
+#[tactic(auto, unfolding(crate::specs::Flags::flag_two))]
 pub fn flag_two(flags: u64) -> bool
     ensures { result ≡ flag_two flags }
 {
-    flags == 2 || flags == 3
+    has_flag::<2>(flags)
 }

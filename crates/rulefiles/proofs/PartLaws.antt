@@ -1,15 +1,16 @@
 -- A file's part by where its start and end lie.
 use mathlib.Core.Path.{◌≡◌, refl, sym, ap, ◌∙◌}
 use mathlib.Core.List.{List, [], ◌∷◌}
-use mathlib.Core.Bool.{cond, ◌&&◌}
 use Prim.Native.Nat.{ℕ, zero, suc, ◌-◌, ◌<◌, ◌≤◌}
 use native.Mathlib.Nat.{sub-zero, zero-sub, suc-sub-suc}
 use native.Mathlib.Omega.{arith}
-use lib.Dec.{eqb}
-use lib.ListN.{length, get_or, take, drop, length-drop, drop_of_length-le}
+use lib.ListN.{length, take, drop, length-drop, drop_of_length-le}
 use lib.Seq.{take_all, take-nil}
-use borrow.Author.Tests.{eq-eqb, ne_eqb}
-use Rattle.rulefiles.specs.RuleFiles.{bytes_between, bom_length}
+use mathlib.Core.Logic.{◌⊎◌, inl, inr, ⊎_elim}
+use Rattle.std.proofs.lemmas.Bool.{cases_lt}
+use Rattle.std.specs.Prelude.{min}
+use Rattle.std.specs.List.{slice_range}
+use Rattle.rulefiles.specs.RuleFiles.{bytes_between}
 
 pub part_none : (start end : ℕ) (s : List ℕ) → end ≤ start → [] ≡ bytes_between start end s
 unfolding bytes_between
@@ -36,30 +37,17 @@ pub part_upto : (start end : ℕ) (s : List ℕ) → bytes_between start end s �
 unfolding bytes_between
 part_upto start end s = upto_part start end s
 
--- The BOM, by the tests on the file's first three bytes.
-bom_at : (s : List ℕ) → 3 ≤ length s → bom_length s ≡ cond (eqb (get_or s 0 0) 0xEF && (eqb (get_or s 1 0) 0xBB && eqb (get_or s 2 0) 0xBF)) 3 0
-unfolding bom_length
-bom_at [] h = refl
-bom_at (a ∷ []) h = absurd (omega arith)
-bom_at (a ∷ b ∷ []) h = absurd (omega arith)
-bom_at (a ∷ b ∷ c ∷ s) h = refl
+-- the part up to the end or the buffer's, whichever is before
+module _ (start end m : ℕ) (s : List ℕ) (e : m ≡ min end (length s)) where
+  pub part_got : slice_range s start m ≡ bytes_between start end s
+  unfolding bytes_between
+  part_got =
+      ⊎_elim (λ (l : length s < end). let q : m ≡ length s = omega (arith, e, l) in rw q (part_rest start end s l))
+      (λ (l : end ≤ length s). let q : m ≡ end = omega (arith, e, l) in rw q refl) (cases_lt (length s) end)
 
-pub bom_short : (s : List ℕ) → length s < 3 → 0 ≡ bom_length s
-unfolding bom_length
-bom_short [] h = refl
-bom_short (a ∷ []) h = refl
-bom_short (a ∷ b ∷ []) h = refl
-bom_short (a ∷ b ∷ c ∷ s) h = absurd (omega arith)
-
-module _ (s : List ℕ) (l : 3 ≤ length s) where
-  pub bom_first : (get_or s 0 0 ≡ 0xEF → ⊥) → 0 ≡ bom_length s
-  bom_first n = sym (bom_at s l ∙ rw (ne_eqb (get_or s 0 0) 0xEF n))
-
-  pub bom_second : get_or s 0 0 ≡ 0xEF → (get_or s 1 0 ≡ 0xBB → ⊥) → 0 ≡ bom_length s
-  bom_second a n = sym (bom_at s l ∙ rw (eq-eqb (get_or s 0 0) 0xEF a, ne_eqb (get_or s 1 0) 0xBB n))
-
-  pub bom_third : get_or s 0 0 ≡ 0xEF → get_or s 1 0 ≡ 0xBB → (get_or s 2 0 ≡ 0xBF → ⊥) → 0 ≡ bom_length s
-  bom_third a b n = sym (bom_at s l ∙ rw (eq-eqb (get_or s 0 0) 0xEF a, eq-eqb (get_or s 1 0) 0xBB b, ne_eqb (get_or s 2 0) 0xBF n))
-
-  pub bom-whole : get_or s 0 0 ≡ 0xEF → get_or s 1 0 ≡ 0xBB → get_or s 2 0 ≡ 0xBF → 3 ≡ bom_length s
-  bom-whole a b d = sym (bom_at s l ∙ rw (eq-eqb (get_or s 0 0) 0xEF a, eq-eqb (get_or s 1 0) 0xBB b, eq-eqb (get_or s 2 0) 0xBF d))
+  -- where that is before the start, there is none
+  pub part_lost : (m < start) ⊎ (length s < m) → [] ≡ bytes_between start end s
+  part_lost (inr h) = absurd (omega (arith, e, h))
+  part_lost (inl h) =
+      ⊎_elim (λ (l : length s < start). part_past start end s l) (λ (l : start ≤ length s). part_none start end s (omega (arith, e, h, l)))
+      (cases_lt (length s) start)

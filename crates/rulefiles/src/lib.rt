@@ -15,55 +15,47 @@ pub struct Place {
     pub line: usize,
 }
 
-const BOM_FIRST: u8 = 0xEF;
+// What was decided, and the place of the line that decided it.
+#[derive(Clone, Copy)]
+pub struct Decision<E> {
+    pub what: E,
+    pub place: Place,
+}
 
-const BOM_SECOND: u8 = 0xBB;
-
-const BOM_THIRD: u8 = 0xBF;
+// Rule files as they are lent: their bytes end to end, and of each file where it ends among them and its base, in two lists.
+#[derive(Clone, Copy)]
+pub struct RuleFiles<'a> {
+    pub rules: &'a [u8],
+    pub ends: &'a [usize],
+    pub bases: &'a [usize],
+}
 
 // The place of a line, by its file's number and its own: whoever decides by a line takes its place from here.
 pub fn line_place(file: usize, line: usize) -> Place
     ensures { result ≡ place_at file line }
 {
-    Place {
-        file: file,
-        line: line,
-    }
+    Place { file, line }
 }
 
 // The bytes of a file that lies in the rules from its start to its end. Numbers past the buffer give what of the file is in it.
 pub fn file_part(rules: &[u8], start: usize, end: usize) -> &[u8]
     ensures { result.now ≡ bytes_between start end rules.now }
 {
-    if end <= start {
-        return &rules[..0];
+    match rules.get(start..end.min(rules.len())) {
+        Some(part) => part,
+        None => &rules[..0],
     }
-    if end <= rules.len() {
-        return &rules[start..end];
-    }
-    if start <= rules.len() {
-        return &rules[start..];
-    }
-    &rules[..0]
 }
 
 // How many bytes of the file's start are its BOM.
+#[tactic(auto, unfolding(crate::specs::RuleFiles::bom_length))]
 pub fn bom_length(file: &[u8]) -> usize
     ensures { result ≡ bom_length file.now }
 {
-    if file.len() < 3 {
-        return 0;
+    match file {
+        [0xEF, 0xBB, 0xBF, ..] => 3,
+        _ => 0,
     }
-    if file[0] != BOM_FIRST {
-        return 0;
-    }
-    if file[1] != BOM_SECOND {
-        return 0;
-    }
-    if file[2] != BOM_THIRD {
-        return 0;
-    }
-    3
 }
 
 // The place of the next newline from `at` on, or the file's end; past the end, `at` itself.

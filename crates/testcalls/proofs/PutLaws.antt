@@ -5,7 +5,7 @@ use native.Mathlib.Omega.{arith}
 use mathlib.Core.Path.{◌≡◌, refl, sym, ap, subst, ◌∙◌}
 use mathlib.Core.Bool.{Bool, cond}
 use mathlib.Core.List.{List, [], ◌∷◌, ◌++◌}
-use mathlib.Core.Option.{none, some}
+use Rattle.std.specs.Prelude.{None, Some}
 use lib.ListN.{length, drop}
 use lib.Seq.{sets, sets-eq}
 use borrow.Author.Tests.{le-leb, lt-leb}
@@ -19,22 +19,11 @@ pub put_none : (held : List ℕ) → held ≡ put [] held
 unfolding put
 put_none held = sym (ap (picked [] held) (le-leb 0 (length held) (omega arith)))
 
-pub put_short : (values held : List ℕ) → length held < length values → held ≡ put values held
-unfolding put
-put_short values held short = sym (ap (picked values held) (lt-leb (length values) (length held) short))
-
-pub put_stores : (values held : List ℕ) → length values ≤ length held → sets held 0 values ≡ put values held
-unfolding put
-put_stores values held fits =
-    sets-eq values held 0 (subst (λ (k : ℕ). k ≤ length held) (sym (zero-add (length values))) fits)
-    ∙ ap (λ (k : ℕ). values ++ drop k held) (zero-add (length values))
-    ∙ sym (ap (picked values held) (le-leb (length values) (length held) fits))
-
 -- where a pattern is not broken, and where it is
-pub no_place : (pattern held : List ℕ) → broken_at pattern ≡ none → BrokenProbed pattern 0 held held
+pub no_place : (pattern held : List ℕ) → broken_at pattern ≡ None → BrokenProbed pattern 0 held held
 unfolding places
 no_place pattern held e = record { numbered = rw e refl; written = rw e (put_none held) }
 
-pub one_place : (pattern held after : List ℕ) (n : ℕ) → broken_at pattern ≡ some n → after ≡ put (n ∷ []) held → BrokenProbed pattern 1 held after
+pub one_place : (pattern held after : List ℕ) (n : ℕ) → broken_at pattern ≡ Some n → after ≡ put (n ∷ []) held → BrokenProbed pattern 1 held after
 unfolding places
 one_place pattern held after n e h = record { numbered = rw e refl; written = rw e h }

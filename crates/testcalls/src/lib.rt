@@ -7,117 +7,71 @@ ghost use Rattle.answers.specs.Complete.{place_values, state_values, complete_ig
 ghost use Rattle.wildmatch.specs.Answers.{values_of};
 ghost use Rattle.testcalls.specs.Probes.{put, named_probed, MatchProbed, BrokenProbed, IgnoreProbed, AttributeProbed};
 
-use answers::{
-    AttributeAnswer, DecidedEntry, DecidedState, IgnoreAnswer, attribute_code, ignore_code,
-};
-use attributelines::{Span, State};
-use brokenplaces::{Reading, broken_at};
+use answers::{AttributeAnswer, IgnoreAnswer, attribute_code, ignore_code};
+use attributelines::State;
+use brokenplaces::broken_at;
 use classnames::name_has;
 use questions::attribute::attribute;
 use questions::ignore::ignore;
-use rulefiles::Place;
+use refusals::Refusal;
+use rulefiles::{Decision, RuleFiles};
 use wildmatch::{Answer, code_of, wildmatch};
 
-// Puts a place in a pattern into the first entry of the list, if it has one.
-fn put_broken(place: usize, out: &mut [usize])
-    ensures { out.new ≡ put (place ∷ []) out.old }
+// Puts the values into the first entries of the list, if it has so many.
+#[tactic(auto, unfolding(crate::specs::Probes::put))]
+fn put(values: &[usize], out: &mut [usize])
+    ensures { out.new ≡ put values.now out.old }
 {
-    if out.len() < 1 {
-        return;
+    if values.len() <= out.len() {
+        out[..values.len()].copy_from_slice(values);
     }
-    out[0] = place;
 }
 
-// Puts the value of an answer of the matcher, if it has one.
-fn put_match(answer: Answer, out: &mut [usize])
+// Puts the value of an answer of the matcher, if it has one. (This and the next three are a match each on another type; what they share is `put`.)
+#[tactic(auto, using(crate::proofs::PutLaws::put_none), unfolding(wildmatch::specs::Answers::values_of))]
+fn put_match(answer: Result<Answer, Refusal>, out: &mut [usize])
     ensures { out.new ≡ put (values_of answer) out.old }
 {
     match answer {
-        Answer::Unmatched => {}
-        Answer::Matched => {}
-        Answer::Broken(place) => put_broken(place, out),
-        Answer::Refused(_) => {}
+        Ok(Answer::Broken(place)) => put(&[place], out),
+        Ok(Answer::Unmatched | Answer::Matched) | Err(_) => {}
     }
-}
-
-// Puts the entry's length, the file and the line into the first three entries, if there are so many.
-fn put_decided(decided: DecidedEntry, out: &mut [usize])
-    ensures { out.new ≡ put (decided.length ∷ place_values decided.place) out.old }
-{
-    if out.len() < 3 {
-        return;
-    }
-    let place = decided.place;
-    out[0] = decided.length;
-    out[1] = place.file;
-    out[2] = place.line;
 }
 
 // Puts the values of an answer of the ignore question, if it has any.
+#[tactic(auto, using(crate::proofs::PutLaws::put_none), unfolding(answers::specs::Complete::complete_ignore))]
 fn put_ignore(answer: IgnoreAnswer, out: &mut [usize])
     ensures { out.new ≡ put (complete_ignore answer).values out.old }
 {
     match answer {
-        IgnoreAnswer::Undecided => {}
-        IgnoreAnswer::Ignored(decided) => put_decided(decided, out),
-        IgnoreAnswer::Reincluded(decided) => put_decided(decided, out),
-        IgnoreAnswer::Refused(_) => {}
+        Ok(Some(entry)) => {
+            let place = entry.decision.place;
+            put(&[entry.length, place.file, place.line], out);
+        }
+        Ok(None) | Err(_) => {}
     }
-}
-
-// Puts the file and the line into the first two entries, if there are so many.
-fn put_place(place: Place, out: &mut [usize])
-    ensures { out.new ≡ put (place_values place) out.old }
-{
-    if out.len() < 2 {
-        return;
-    }
-    out[0] = place.file;
-    out[1] = place.line;
-}
-
-// Puts a value's start and length, the file and the line into the first four entries, if there are so many.
-fn put_value(value: Span, place: Place, out: &mut [usize])
-    ensures { out.new ≡ put (value.start ∷ value.length ∷ place_values place) out.old }
-{
-    if out.len() < 4 {
-        return;
-    }
-    out[0] = value.start;
-    out[1] = value.length;
-    out[2] = place.file;
-    out[3] = place.line;
 }
 
 // Puts the values of a state and its place.
-fn put_stated(state: State, place: Place, out: &mut [usize])
-    ensures { out.new ≡ put (state_values state ++ place_values place) out.old }
+#[tactic(auto, using(crate::proofs::PutLaws::put_none), unfolding(answers::specs::Complete::state_values))]
+fn put_state(decided: Decision<State>, out: &mut [usize])
+    ensures { out.new ≡ put (state_values decided.what ++ place_values decided.place) out.old }
 {
-    match state {
-        State::Set => put_place(place, out),
-        State::Unset => put_place(place, out),
-        State::Value(value) => put_value(value, place, out),
-        State::Unspecified => put_place(place, out),
+    let place = decided.place;
+    match decided.what {
+        State::Value(value) => put(&[value.start, value.length, place.file, place.line], out),
+        State::Set | State::Unset | State::Unspecified => put(&[place.file, place.line], out),
     }
 }
 
-// The same of a decided state.
-fn put_decided_state(decided: DecidedState, out: &mut [usize])
-    ensures { out.new ≡ put (state_values decided.state ++ place_values decided.place) out.old }
-{
-    let state = decided.state;
-    let place = decided.place;
-    put_stated(state, place, out);
-}
-
 // Puts the values of an answer of the attribute question, if it has any.
+#[tactic(auto, using(crate::proofs::PutLaws::put_none), unfolding(answers::specs::Complete::complete_attribute))]
 fn put_attribute(answer: AttributeAnswer, out: &mut [usize])
     ensures { out.new ≡ put (complete_attribute answer).values out.old }
 {
     match answer {
-        AttributeAnswer::Undecided => {}
-        AttributeAnswer::Decided(decided) => put_decided_state(decided, out),
-        AttributeAnswer::Refused(_) => {}
+        Ok(Some(decided)) => put_state(decided, out),
+        Ok(None) | Err(_) => {}
     }
 }
 
@@ -138,9 +92,9 @@ pub extern "C" fn testcalls_broken(pattern: &[u8], out: &mut [usize]) -> u32
     ensures { BrokenProbed pattern.now result out.old out.new }
 {
     match broken_at(pattern) {
-        Reading::Unbroken => 0,
-        Reading::Broken(place) => {
-            put_broken(place, out);
+        None => 0,
+        Some(place) => {
+            put(&[place], out);
             1
         }
     }
@@ -148,6 +102,7 @@ pub extern "C" fn testcalls_broken(pattern: &[u8], out: &mut [usize]) -> u32
 
 // Whether the k-th of the twelve class names lists the byte x: 1 or 0.
 #[unsafe(no_mangle)]
+#[tactic(auto, unfolding(crate::specs::Probes::named_probed))]
 pub extern "C" fn testcalls_named(k: usize, x: u8) -> u32
     ensures { result ≡ named_probed k x }
 {
@@ -167,7 +122,8 @@ pub extern "C" fn testcalls_ignore(
 ) -> u32
     ensures { IgnoreProbed path.now rules.now ends.now bases.now flags result out.old out.new }
 {
-    let answer = ignore(path, rules, ends, bases, flags);
+    let files = RuleFiles { rules, ends, bases };
+    let answer = ignore(path, &files, flags);
     put_ignore(answer, out);
     ignore_code(answer)
 }
@@ -186,7 +142,8 @@ pub extern "C" fn testcalls_attribute(
 ) -> u32
     ensures { AttributeProbed path.now rules.now ends.now bases.now name.now flags result out.old out.new }
 {
-    let answer = attribute(path, rules, ends, bases, name, flags);
+    let lent = RuleFiles { rules, ends, bases };
+    let answer = attribute(path, &lent, name, flags);
     put_attribute(answer, out);
     attribute_code(answer)
 }

@@ -1,34 +1,47 @@
 -- The bytes that a field of a row writes: each by itself, or by `%HH`, an escape with its two hexadecimal digits.
-use Rattle.std.specs.Prelude.{ℕ, zero, suc, ◌+◌, ◌-◌, Bool, true, cond, ◌&&◌, List, [], ◌∷◌, eqb, ltb, leb, length, get_or}
+use Rattle.std.specs.Prelude.{ℕ, ◌+◌, ◌-◌, ◌*◌, cond, ◌&&◌, Option, None, Some, List, [], ◌∷◌, ◌++◌, eqb, leb}
 use Rattle.bytestrings.specs.Text.{char}
-use Rattle.testtables.specs.Results.{failed}
 
--- the value of a hexadecimal digit; 16 for any other byte
-unfoldable pub hex_value : ℕ → ℕ
+-- the value of a hexadecimal digit
+unfoldable pub hex_value : ℕ → Option ℕ
 hex_value b =
-    cond (leb (char "0") b && leb b (char "9")) (b - char "0")
-    (cond (leb (char "a") b && leb b (char "f")) (b - char "a" + 10) 16)
+    cond (leb (char "0") b && leb b (char "9")) (Some (b - char "0"))
+    (cond (leb (char "a") b && leb b (char "f")) (Some (b - char "a" + 10)) None)
 
--- a byte is a hexadecimal digit
-unfoldable pub is_hex : ℕ → Bool
-is_hex b = leb (hex_value b) 15
+-- the byte that two digits of these values write
+abbrev pub byte_of : Option ℕ → Option ℕ → Option ℕ
+byte_of None low = None
+byte_of (Some high) None = None
+byte_of (Some high) (Some low) = Some (high * 16 + low)
 
--- how many bytes at a place write one; 0 where an escape is cut off
-unfoldable pub width : List ℕ → ℕ → ℕ
-width field at = cond (eqb (get_or field at 0) (char "%")) (cond (leb 3 (length field - at)) 3 0) 1
+unfoldable pub hex_byte : ℕ → ℕ → Option ℕ
+hex_byte high low = byte_of (hex_value high) (hex_value low)
 
--- these bytes are no escape, or a whole one
-unfoldable pub is_whole : List ℕ → ℕ → ℕ → Bool
-is_whole field at len = cond (leb 3 len) (is_hex (get_or field (at + 1) 0) && is_hex (get_or field (at + 2) 0)) true
+-- a byte, if there is one, and what stands behind it
+abbrev pub before : Option ℕ → List ℕ → Option (ℕ × List ℕ)
+before None rest = None
+before (Some b) rest = Some (b, rest)
 
--- how many bytes a field writes into so much room, behind n that are written, the next k of its own passed over; a failure where an escape is
--- broken or there is no room
-abbrev pub decoded_from : ℕ → ℕ → ℕ → List ℕ → ℕ
-decoded_from room n k [] = n
-decoded_from room n (suc k) (b ∷ s) = decoded_from room n k s
-decoded_from room n zero (b ∷ s) =
-    cond (leb 1 (width (b ∷ s) 0) && is_whole (b ∷ s) 0 (width (b ∷ s) 0) && ltb n room) (decoded_from room (n + 1) (width (b ∷ s) 0 - 1) s) failed
+-- the byte that the first bytes of a field write, and what stands behind them; none where an escape is broken or cut off
+unfoldable pub first_byte : List ℕ → Option (ℕ × List ℕ)
+first_byte [] = None
+first_byte (b ∷ []) = cond (eqb b (char "%")) None (Some (b, []))
+first_byte (b ∷ c ∷ []) = cond (eqb b (char "%")) None (Some (b, c ∷ []))
+first_byte (b ∷ c ∷ d ∷ s) = cond (eqb b (char "%")) (before (hex_byte c d) s) (Some (b, c ∷ d ∷ s))
 
--- from its start
-unfoldable pub decoded : ℕ → List ℕ → ℕ
-decoded room field = decoded_from room 0 0 field
+-- more bytes behind one, if there is one
+abbrev pub with_byte : Option ℕ → (ℕ → Option (List ℕ)) → Option (List ℕ)
+with_byte None more = None
+with_byte (Some b) more = more b
+
+-- the bytes that a field writes, behind some that are written
+abbrev pub decoded_behind : List ℕ → List ℕ → Option (List ℕ)
+decoded_behind done [] = Some done
+decoded_behind done (b ∷ []) = cond (eqb b (char "%")) None (Some (done ++ b ∷ []))
+decoded_behind done (b ∷ c ∷ []) = cond (eqb b (char "%")) None (decoded_behind (done ++ b ∷ []) (c ∷ []))
+decoded_behind done (b ∷ c ∷ d ∷ s) =
+    cond (eqb b (char "%")) (with_byte (hex_byte c d) (λ x. decoded_behind (done ++ x ∷ []) s)) (decoded_behind (done ++ b ∷ []) (c ∷ d ∷ s))
+
+-- the bytes that a field writes; none where an escape is broken or cut off
+unfoldable pub decoded : List ℕ → Option (List ℕ)
+decoded field = decoded_behind [] field

@@ -2,10 +2,7 @@
 // Writes each answer that differs, what passed of each section, and the totals.
 #![tactic(auto)]
 
-ghost use Rattle.std.specs.Prelude.{◌≤◌, length};
-
-use std::fs::File;
-use std::io::Read;
+use std::fs;
 
 mod fields;
 mod lend;
@@ -15,50 +12,60 @@ mod row;
 mod tally;
 mod written;
 
-use crate::tally::{Table, Tally};
+use crate::row::{Ran, RowError};
+use crate::tally::Tally;
 
-// Reads until the buffer is full, the file ends or a read fails, and answers how many bytes came.
-fn read_full(file: &mut File, buf: &mut [u8]) -> usize
-    ensures { result ≤ length buf.new }
+// A file of so many bytes is not run.
+const TOO_LONG: usize = 65536;
+
+// Runs each row of the file of a name by `run`, which gets the whole file too.
+fn run_file<F: Fn(&str, &str) -> Result<Ran, RowError>>(
+    rt: HostRuntime,
+    name: &str,
+    tally: &mut Tally,
+    run: F,
+)
+    requires { F.IsAlwaysCallable run }
 {
-    let mut done = 0;
-    while done < buf.len() {
-        let n = file.read(&mut buf[done..]).unwrap_or(0);
-        if n == 0 {
-            return done;
+    match fs::read_to_string(&rt, name) {
+        Ok(text) => {
+            if text.len() >= TOO_LONG {
+                report::too_long(&rt, name);
+            } else {
+                tally.run_rows(&rt, text.as_str(), run);
+            }
         }
-        done += n;
-    }
-    done
-}
-
-// Runs one file of rows. A file that fills the buffer may go on behind it, so it is not run as if it were whole.
-fn run_file(rt: HostRuntime, table: Table, name: &str, file: &mut File, before: Tally) -> Tally {
-    let mut buf = io::large_buffer();
-    let n = read_full(file, &mut buf);
-    if n == 65536 {
-        report::too_long(rt, name);
-        return before;
-    }
-    tally::run_rows(rt, table, &buf[..n], before)
-}
-
-// Runs the file of a name.
-fn run_named(rt: HostRuntime, table: Table, name: &str, before: Tally) -> Tally {
-    match File::open(&rt, name) {
-        Ok(mut file) => run_file(rt, table, name, &mut file, before),
-        Err(e) => {
-            report::failed(rt, name, e);
-            before
-        }
+        Err(e) => report::failed(rt, name, e),
     }
 }
 
+// Document 001's tables have no third answer: broken is 0 there (02, R-14).
 fn main(rt: HostRuntime) {
-    let none = tally::nothing();
-    let rows = run_named(rt, Table::Matches001, "document-001.tsv", none);
-    let frames = run_named(rt, Table::Matches, "document-01.tsv", rows);
-    let ignores = run_named(rt, Table::Questions, "ignore.tsv", frames);
-    let all = run_named(rt, Table::Questions, "attributes.tsv", ignores);
-    report::totals(rt, all);
+    let alloc = rt.alloc();
+    let mut tally = Tally::new();
+    run_file(
+        rt,
+        "document-001.tsv",
+        &mut tally,
+        |_, row| row::run(&rt, alloc, row, true),
+    );
+    run_file(
+        rt,
+        "document-01.tsv",
+        &mut tally,
+        |_, row| row::run(&rt, alloc, row, false),
+    );
+    run_file(
+        rt,
+        "ignore.tsv",
+        &mut tally,
+        |sheet, row| question::run(&rt, alloc, sheet, row),
+    );
+    run_file(
+        rt,
+        "attributes.tsv",
+        &mut tally,
+        |sheet, row| question::run(&rt, alloc, sheet, row),
+    );
+    report::totals(&rt, &tally);
 }

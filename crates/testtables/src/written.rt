@@ -1,145 +1,81 @@
 // Answers as the data files write them.
-ghost use Rattle.testtables.specs.Results.{NoFurther};
-
-use answers::{AttributeAnswer, DecidedEntry, DecidedState, IgnoreAnswer};
+use answers::{AttributeAnswer, DecidedEntry, IgnoreAnswer};
 use attributelines::State;
-use rulefiles::Place;
+use ignorelines::Verdict;
+use refusals::Refusal;
+use rulefiles::{Decision, Place};
+use std::alloc::{AllocError, Global};
 use wildmatch::Answer;
 
-// Puts bytes at a place of `out`, as many as fit, and answers the place after them.
-fn append(out: &mut [u8], at: usize, s: &[u8]) -> usize
-    ensures { NoFurther result at out.new }
-{
-    let mut n = at;
-    let mut i = 0;
-    while i < s.len() {
-        if n >= out.len() {
-            return n;
-        }
-        out[n] = s[i];
-        n += 1;
-        i += 1;
-    }
-    n
+fn refused(alloc: Global, refusal: Refusal) -> Result<String, AllocError> {
+    format!(in alloc; "refused {}", u8::from(refusal))
 }
 
-// Puts a space and a number.
-fn append_number(out: &mut [u8], at: usize, n: u64) -> usize
-    ensures { NoFurther result at out.new }
-{
-    let mut digits = [0u8; 20];
-    let k = io::decimal(n, &mut digits);
-    let after = append(out, at, b" ");
-    append(out, after, &digits[..k])
-}
-
-fn append_place(out: &mut [u8], at: usize, place: Place) -> usize
-    ensures { NoFurther result at out.new }
-{
-    let after = append_number(out, at, place.file as u64);
-    append_number(out, after, place.line as u64)
-}
-
-fn broken(place: usize, out: &mut [u8]) -> usize
-    ensures { NoFurther result 0 out.new }
-{
-    let at = append(out, 0, b"broken");
-    append_number(out, at, place as u64)
-}
-
-fn refused(n: u8, out: &mut [u8]) -> usize
-    ensures { NoFurther result 0 out.new }
-{
-    let at = append(out, 0, b"refused");
-    append_number(out, at, n as u64)
-}
-
-// Puts an answer of the matcher, and says how many bytes it has.
-pub fn matched(answer: Answer, out: &mut [u8]) -> usize
-    ensures { NoFurther result 0 out.new }
-{
+// An answer of the matcher.
+pub fn matched(alloc: Global, answer: Result<Answer, Refusal>) -> Result<String, AllocError> {
     match answer {
-        Answer::Unmatched => append(out, 0, b"0"),
-        Answer::Matched => append(out, 0, b"1"),
-        Answer::Broken(place) => broken(place, out),
-        Answer::Refused(n) => refused(n, out),
+        Ok(Answer::Unmatched) => String::from_str(alloc, "0"),
+        Ok(Answer::Matched) => String::from_str(alloc, "1"),
+        Ok(Answer::Broken(place)) => format!(in alloc; "broken {place}"),
+        Err(refusal) => refused(alloc, refusal),
     }
 }
 
 // A verdict, the entry's length, the file and the line.
-fn decided(verdict: &[u8], d: DecidedEntry, out: &mut [u8]) -> usize
-    ensures { NoFurther result 0 out.new }
-{
-    let at = append(out, 0, verdict);
-    let after = append_number(out, at, d.length as u64);
-    let place = d.place;
-    append_place(out, after, place)
+fn decided(alloc: Global, entry: DecidedEntry) -> Result<String, AllocError> {
+    let verdict = match entry.decision.what {
+        Verdict::Ignored => "ignored",
+        Verdict::Reincluded => "re-included",
+    };
+    let place = entry.decision.place;
+    format!(in alloc; "{verdict} {} {} {}", entry.length, place.file, place.line)
 }
 
-// Puts an answer of the ignore question, and says how many bytes it has.
-pub fn ignore(answer: IgnoreAnswer, out: &mut [u8]) -> usize
-    ensures { NoFurther result 0 out.new }
-{
+// An answer of the ignore question.
+pub fn ignore(alloc: Global, answer: IgnoreAnswer) -> Result<String, AllocError> {
     match answer {
-        IgnoreAnswer::Undecided => append(out, 0, b"nothing"),
-        IgnoreAnswer::Ignored(d) => decided(b"ignored", d, out),
-        IgnoreAnswer::Reincluded(d) => decided(b"re-included", d, out),
-        IgnoreAnswer::Refused(n) => refused(n, out),
+        Ok(None) => String::from_str(alloc, "nothing"),
+        Ok(Some(entry)) => decided(alloc, entry),
+        Err(refusal) => refused(alloc, refusal),
     }
 }
 
-// A state that is no value, the file and the line.
-fn stated(state: &[u8], place: Place, out: &mut [u8]) -> usize
-    ensures { NoFurther result 0 out.new }
-{
-    let at = append(out, 0, state);
-    append_place(out, at, place)
+// A state, the file and the line.
+fn stated(alloc: Global, state: &str, place: Place) -> Result<String, AllocError> {
+    format!(in alloc; "{state} {} {}", place.file, place.line)
 }
 
-// Puts the bytes that a value has in the rules.
-fn append_value(out: &mut [u8], at: usize, rules: &[u8], start: usize, length: usize) -> usize
-    ensures { NoFurther result at out.new }
-{
-    if start > rules.len() {
-        return append(out, at, b"outside the rules");
-    }
-    if length > rules.len() - start {
-        return append(out, at, b"outside the rules");
-    }
-    append(out, at, &rules[start..start + length])
+// The bytes that a value has in the rules.
+fn value(rules: &[u8], start: usize, length: usize) -> &str {
+    let bytes = rules.get(start..).and_then(|rest| rest.get(..length));
+    bytes
+        .and_then(|bytes| str::from_utf8(bytes).ok())
+        .unwrap_or("outside the rules, or no text")
 }
 
-// A value: the file, the line, where it starts in the rules, and its bytes.
-fn value(place: Place, start: usize, length: usize, rules: &[u8], out: &mut [u8]) -> usize
-    ensures { NoFurther result 0 out.new }
-{
-    let after_place = stated(b"value", place, out);
-    let after_start = append_number(out, after_place, start as u64);
-    let at = append(out, after_start, b" ");
-    append_value(out, at, rules, start, length)
-}
-
-// A state: as a word, a value with its bytes.
-fn decided_state(s: DecidedState, rules: &[u8], out: &mut [u8]) -> usize
-    ensures { NoFurther result 0 out.new }
-{
-    let state = s.state;
-    let place = s.place;
-    match state {
-        State::Set => stated(b"set", place, out),
-        State::Unset => stated(b"unset", place, out),
-        State::Value(v) => value(place, v.start, v.length, rules, out),
-        State::Unspecified => stated(b"unspecified", place, out),
+// A state: as a word, a value with where it starts in the rules, and its bytes.
+fn decided_state(alloc: Global, s: Decision<State>, rules: &[u8]) -> Result<String, AllocError> {
+    match s.what {
+        State::Set => stated(alloc, "set", s.place),
+        State::Unset => stated(alloc, "unset", s.place),
+        State::Value(v) => {
+            let mut out = stated(alloc, "value", s.place)?;
+            write!(out, " {} {}", v.start, value(rules, v.start, v.length))?;
+            Ok(out)
+        }
+        State::Unspecified => stated(alloc, "unspecified", s.place),
     }
 }
 
-// Puts an answer of the attribute question, and says how many bytes it has.
-pub fn attribute(answer: AttributeAnswer, rules: &[u8], out: &mut [u8]) -> usize
-    ensures { NoFurther result 0 out.new }
-{
+// An answer of the attribute question.
+pub fn attribute(
+    alloc: Global,
+    answer: AttributeAnswer,
+    rules: &[u8],
+) -> Result<String, AllocError> {
     match answer {
-        AttributeAnswer::Undecided => append(out, 0, b"nothing"),
-        AttributeAnswer::Decided(s) => decided_state(s, rules, out),
-        AttributeAnswer::Refused(n) => refused(n, out),
+        Ok(None) => String::from_str(alloc, "nothing"),
+        Ok(Some(decision)) => decided_state(alloc, decision, rules),
+        Err(refusal) => refused(alloc, refusal),
     }
 }

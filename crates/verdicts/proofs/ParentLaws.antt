@@ -1,21 +1,24 @@
 -- The parents of an entry, from the parents of its own parent; and the rule from the top down over them.
-use Prim.Native.Nat.{ℕ, zero, suc, ◌<◌, ◌≤◌}
+use Prim.Native.Nat.{ℕ, zero, suc, ◌-◌, ◌<◌, ◌≤◌}
 use native.Mathlib.Omega.{arith}
 use mathlib.Core.Path.{◌≡◌, refl, sym, ap, subst, ◌∙◌}
 use mathlib.Core.Bool.{Bool, true, false, cond, ◌||◌, false≢true}
 use mathlib.Core.List.{List, [], ◌∷◌, ◌++◌, append-nil}
-use mathlib.Core.Option.{Option, none, some}
+use Rattle.std.specs.Prelude.{Option, None, Some}
 use lib.Dec.{eqb}
 use lib.ListN.{length, take, drop, get_or}
 use lib.Seq.{append_snoc, length-take-le}
 use borrow.Author.Tests.{eq-eqb}
 use Rattle.bytestrings.specs.Text.{char}
-use Rattle.rulefiles.specs.Decisions.{Decision, override}
+use Rattle.rulefiles.specs.declared.Decision.{Decision}
+use Rattle.rulefiles.specs.Decisions.{override}
 use Rattle.rulefiles.proofs.DecisionLaws.{override_assoc}
 use Rattle.entries.specs.Entries.{Entry, component_start}
 use Rattle.bytestrings.specs.Bytes.{has}
 use Rattle.entries.proofs.ComponentLaws.{After, start-place}
-use Rattle.ignorelines.specs.IgnoreLines.{Verdict, ignored, re_included}
+use Rattle.entries.proofs.SubjectLaws.{start_fits}
+use Rattle.ignorelines.specs.declared.Verdict.{Verdict}
+use Rattle.ignorelines.specs.declared.Verdict.TheVariants.{Ignored, Reincluded}
 use Rattle.answers.specs.Complete.{Complete, decided}
 use Rattle.verdicts.specs.Verdicts.{parents_from, parents, ignores, judged, top_down}
 use Rattle.verdicts.specs.inner.Scan.{ignored_at, first_ignored}
@@ -48,57 +51,68 @@ parents_last before (x ∷ s) (suc k) l e h =
     step before x s k false q = q
 
 -- an entry of one component has no parents
-pub parents_top : (s : List ℕ) (at : ℕ) → at ≡ component_start s → at ≡ 0 → parents s ≡ []
+pub parents_top : (s : List ℕ) (at : ℕ) → at ≡ component_start s → (1 ≤ at → ⊥) → parents s ≡ []
 unfolding parents
-parents_top s at e z = let p = (start-place s).0 in parents_none [] s (subst (λ (n : ℕ). has (char "/") (drop n s) ≡ false) (sym e ∙ z) p)
+parents_top s at e z =
+    let none : at ≡ 0 = omega (arith, z) in
+    parents_none [] s (subst (λ (n : ℕ). has (char "/") (drop n s) ≡ false) (sym e ∙ none) (start-place s).0)
 
--- another has its parent, and that one's parents
-parents_step : (s : List ℕ) (at n : ℕ) → at ≡ component_start s → at ≡ suc n → (n ≤ length s) × (parents s ≡ parents (take n s) ++ entry_of (take n s) true ∷ [])
+-- the parent of another stands before the `/` that its last component follows
+pub parent_fits : (s : List ℕ) (at n : ℕ) → at ≡ component_start s → (1 ≤ at) × (n ≡ at - 1) → n < length s
+parent_fits s at n e h = let f = start_fits s in omega (arith, e, f, h.0, h.1)
+
+-- it has its parent, and that one's parents
+parents_step : (s : List ℕ) (at n : ℕ) → at ≡ component_start s → (1 ≤ at) × (n ≡ at - 1) → parents s ≡ parents (take n s) ++ entry_of (take n s) true ∷ []
 unfolding parents
-parents_step s at n e z =
-    let p = subst (λ (k : ℕ). (has (char "/") (drop k s) ≡ false) × After s k) (sym e ∙ z) (start-place s) in
-    (omega (arith, p.1.0), parents_last [] s n p.1.0 p.1.1 p.0)
+parents_step s at n e h =
+    let after : at ≡ suc n = omega (arith, h.0, h.1) in
+    let p = subst (λ (k : ℕ). (has (char "/") (drop k s) ≡ false) × After s k) (sym e ∙ after) (start-place s) in
+    parents_last [] s n p.1.0 p.1.1 p.0
 
 module _ (v : Entry → Option (Decision Verdict)) where
   -- the last parent counts where none before it is ignored
   first_last : (ps : List Entry) (p : Entry) → first_ignored v (ps ++ p ∷ []) ≡ override (ignored_at (length p.bytes) (v p)) (first_ignored v ps)
   first_last [] p = go (ignored_at (length p.bytes) (v p))
     where
-      go : (o : Option DecidedEntry) → override none o ≡ o
-      go none = refl
-      go (some d) = refl
+      go : (o : Option DecidedEntry) → override None o ≡ o
+      go None = refl
+      go (Some d) = refl
   first_last (q ∷ ps) p =
       ap (λ (o : Option DecidedEntry). override o (ignored_at (length q.bytes) (v q))) (first_last ps p)
       ∙ override_assoc (ignored_at (length p.bytes) (v p)) (first_ignored v ps) (ignored_at (length q.bytes) (v q))
 
-  pub ignored_top : (s : List ℕ) (at : ℕ) → at ≡ component_start s → at ≡ 0 → none ≡ first_ignored v (parents s)
+  pub ignored_top : (s : List ℕ) (at : ℕ) → at ≡ component_start s → (1 ≤ at → ⊥) → None ≡ first_ignored v (parents s)
   ignored_top s at e z = rw (parents_top s at e z)
 
   -- the parent's parents first, then the parent
-  pub ignored_step : (s : List ℕ) (at n : ℕ) (a : Option DecidedEntry) → at ≡ component_start s → at ≡ suc n → a ≡ first_ignored v (parents (take n s))
+  pub ignored_step : (s : List ℕ) (at n : ℕ) (a : Option DecidedEntry) → at ≡ component_start s → (1 ≤ at) × (n ≡ at - 1) → a ≡ first_ignored v (parents (take n s))
       → override (ignored_at n (v (entry_of (take n s) true))) a ≡ first_ignored v (parents s)
-  ignored_step s at n a e z q =
-      let p = parents_step s at n e z in
+  ignored_step s at n a e h q =
+      let f = parent_fits s at n e h in
+      let l : n ≤ length s = omega arith in
       sym (
-      ap (first_ignored v) p.1 ∙ first_last (parents (take n s)) (entry_of (take n s) true)
-      ∙ rw (length-take-le n s p.0, sym q))
+      ap (first_ignored v) (parents_step s at n e h) ∙ first_last (parents (take n s)) (entry_of (take n s) true)
+      ∙ rw (length-take-le n s l, sym q))
 
   -- where the parents have no answer, the entry's own verdict is it
   abbrev pub answer_or : Option DecidedEntry → Complete → Complete
-  answer_or none a = a
-  answer_or (some d) a = decided ignored d.length d.place
+  answer_or None a = a
+  answer_or (Some e) a = decided e.decision.what e.length e.decision.place
 
   pub top_down_lem : (ps : List Entry) (e : Entry) → answer_or (first_ignored v ps) (judged (length e.bytes) (v e)) ≡ top_down v ps e
   top_down_lem [] e = refl
   top_down_lem (p ∷ ps) e = go (v p) (top_down_lem ps e)
     where
       by : (w : Verdict) (d : Decision Verdict) → d.what ≡ w → answer_or (first_ignored v ps) (judged (length e.bytes) (v e)) ≡ top_down v ps e
-          → answer_or (override (first_ignored v ps) (ignored_at (length p.bytes) (some d))) (judged (length e.bytes) (v e))
-          ≡ cond (ignores (some d)) (judged (length p.bytes) (some d)) (top_down v ps e)
-      by ignored d q h = rw q
-      by re_included d q h = rw q h
+          → answer_or (override (first_ignored v ps) (ignored_at (length p.bytes) (Some d))) (judged (length e.bytes) (v e))
+          ≡ cond (ignores (Some d)) (judged (length p.bytes) (Some d)) (top_down v ps e)
+      by Ignored d q h = rw q
+      by Reincluded d q h = rw q h
 
       go : (o : Option (Decision Verdict)) → answer_or (first_ignored v ps) (judged (length e.bytes) (v e)) ≡ top_down v ps e
           → answer_or (override (first_ignored v ps) (ignored_at (length p.bytes) o)) (judged (length e.bytes) (v e)) ≡ cond (ignores o) (judged (length p.bytes) o) (top_down v ps e)
-      go none h = h
-      go (some d) h = by d.what d refl h
+      go None h = h
+      go (Some d) h = by d.what d refl h
+
+  pub top_down_by : (ps : List Entry) (e : Entry) (o : Option DecidedEntry) → o ≡ first_ignored v ps → answer_or o (judged (length e.bytes) (v e)) ≡ top_down v ps e
+  top_down_by ps e o q = ap (λ (p : Option DecidedEntry). answer_or p (judged (length e.bytes) (v e))) q ∙ top_down_lem ps e

@@ -5,18 +5,15 @@ use native.Mathlib.Numerals.{add-one}
 use mathlib.Core.Path.{◌≡◌, sym, ap, ◌∙◌}
 use mathlib.Core.Bool.{Bool, true, false, cond}
 use mathlib.Core.List.{List}
-use mathlib.Core.Option.{Option}
+use Rattle.std.specs.Prelude.{Option}
 use lib.ListN.{length, take, drop, length-drop, drop_of_length-le}
 use lib.Seq.{drop-drop, length-take-le, take_all}
 use Rattle.rulefiles.specs.RuleFiles.{split, line_length, has_bom, bom_length}
-use Rattle.rulefiles.specs.Decisions.{Decision, override}
+use Rattle.rulefiles.specs.declared.Decision.{Decision}
+use Rattle.rulefiles.specs.Decisions.{override}
 use Rattle.rulefiles.proofs.LineLaws.{split_none, split_first, line_fits}
 use Rattle.rulefiles.proofs.DecisionLaws.{override_assoc}
 use Rattle.verdicts.specs.inner.Scan.{decision_at, last_in, content_start, last_in_file}
-
--- the rules up to a place past them
-pub upto_all : (end : ℕ) (s : List ℕ) → length s < end → s ≡ take end s
-upto_all end s h = sym (take_all end s (omega arith))
 
 pub content_inside : (s : List ℕ) (start n : ℕ) → n ≡ bom_length (take (length s - start) (drop start s)) → start + n ≡ content_start s start
 unfolding content_start

@@ -1,27 +1,21 @@
--- An entry's verdict, file by file.
-use Prim.Native.Nat.{ℕ, ◌<◌, ◌≤◌}
-use native.Mathlib.Omega.{arith}
+-- What the lines of all files decide of an entry, file by file.
+use Prim.Native.Nat.{ℕ}
 use mathlib.Core.Path.{◌≡◌, refl, sym, ap, ◌∙◌}
 use mathlib.Core.Bool.{Bool, true, false, cond}
 use mathlib.Core.List.{List}
-use mathlib.Core.Option.{Option, none}
-use lib.ListN.{length, take, drop, get_or}
-use borrow.Author.Tests.{lt-ltb, le-ltb}
+use Rattle.std.specs.Prelude.{Option, None, Some, option_and_then}
+use lib.ListN.{take, drop}
 use Rattle.bytestrings.proofs.SliceLaws.{from, from-drop}
 use Rattle.rulefiles.specs.RuleFiles.{Line, lines_of, lines_of_all, files_from, files, ordered_lines}
-use Rattle.rulefiles.specs.Decisions.{Decision, override, last_decision}
+use Rattle.rulefiles.specs.Decisions.{override, last_decision}
 use Rattle.rulefiles.proofs.DecisionLaws.{override_none}
-use Rattle.entries.specs.Entries.{Entry, applies, component_start, Subject, against, subject_of}
-use Rattle.entries.proofs.ComponentLaws.{component-whole}
+use Rattle.entries.specs.Entries.{Entry, applies, Subject, against, component_start, subject_of, in_file}
+use Rattle.entries.proofs.SubjectLaws.{subject-whole, in_file-subject}
 use Rattle.ignorelines.specs.IgnoreLines.{ignore_effect}
 use Rattle.attributelines.specs.AttributeLines.{attribute_effect}
-use Rattle.verdicts.specs.inner.Scan.{ignore_at, attribute_at, last_in_file}
+use Rattle.verdicts.specs.Verdicts.{verdict, attribute_state}
+use Rattle.verdicts.specs.inner.Scan.{ignore_at, attribute_at, effect_on, last_in_file}
 use Rattle.verdicts.proofs.FileLaws.{file_at, file-decided, file_none}
-
--- where the last component starts, there is an entry
-pub start_fits : (s : List ℕ) (at : ℕ) → at ≡ component_start s → at ≤ length s
-unfolding component_start
-start_fits s at e = omega (arith, e)
 
 -- the entry that the code looks at
 abbrev pub entry_of : List ℕ → Bool → Entry
@@ -32,50 +26,42 @@ pub subject_from : (base at : ℕ) (bytes : List ℕ) (directory fold : Bool) �
     → subject_of fold base (entry_of bytes directory) ≡ against (from base bytes) (from at bytes) directory fold
 unfolding subject_of
 subject_from base at bytes directory fold e =
-    rw (from-drop base bytes, from-drop at bytes) (ap (λ (c : List ℕ). against (drop base bytes) c directory fold) (component-whole bytes ∙ ap (λ (n : ℕ). drop n bytes) (sym e)))
+    rw (from-drop base bytes) (ap (λ (s : Subject). record s { rest = drop base bytes }) (sym (subject-whole fold directory bytes at e)))
 
--- a file applies, or not
-pub applies_yes : (base : ℕ) (bytes : List ℕ) (directory : Bool) → base < length bytes → applies base (entry_of bytes directory) ≡ true
-unfolding applies
-applies_yes base bytes directory h = lt-ltb base (length bytes) h
-
-pub applies_no : (base : ℕ) (bytes : List ℕ) (directory : Bool) → length bytes ≤ base → applies base (entry_of bytes directory) ≡ false
-unfolding applies
-applies_no base bytes directory h = le-ltb base (length bytes) h
-
--- a question about an entry: `effect` is a line's effect on it, `effect_at` the same by the subject and the line's start and bytes
-module _ {A : Type 0} (effect : Line → Option A) (effect_at : Subject → ℕ → List ℕ → Option A) (directory fold : Bool) (rules ends bases entry : List ℕ)
-    (reads : (l : Line)
-    → effect l ≡ cond (applies l.base (entry_of entry directory)) (effect_at (subject_of fold l.base (entry_of entry directory)) l.start l.bytes) none) where
+-- what the lines decide of an entry, by what a line says of the subject: by its start and its bytes
+module _ {A : Type 0} (says : Subject → ℕ → List ℕ → Option A) (fold : Bool) (e : Entry) where
   -- all files, before the first
-  pub lines_begin : last_decision effect (ordered_lines rules ends bases) ≡ override none (last_decision effect (lines_of_all (files_from 0 0 rules ends bases)))
+  pub lines_begin : (rules ends bases : List ℕ)
+      → last_decision (effect_on says fold e) (ordered_lines rules ends bases) ≡ override None (last_decision (effect_on says fold e) (lines_of_all (files_from 0 0 rules ends bases)))
   unfolding ordered_lines files
-  lines_begin = sym (override_none (last_decision effect (lines_of_all (files_from 0 0 rules ends bases))))
+  lines_begin rules ends bases = sym (override_none (last_decision (effect_on says fold e) (lines_of_all (files_from 0 0 rules ends bases))))
 
-  pub file-applies : (k start at : ℕ) (before after : Option (Decision A)) → get_or bases k 0 < length entry → at ≡ component_start entry
-      → after ≡ override before (last_in_file (effect_at (against (from (get_or bases k 0) entry) (from at entry) directory fold)) k (take (get_or ends k 0) rules) start)
-      → after ≡ override before (last_decision effect (lines_of (file_at rules ends bases k start)))
-  file-applies k start at before after h e q =
-      q ∙ ap (override before) (sym (file-decided effect (effect_at (against (from (get_or bases k 0) entry) (from at entry) directory fold))
-      (file_at rules ends bases k start) (get_or ends k 0) rules refl
-      (λ n m b. reads (record { file = k; number = n; base = get_or bases k 0; start = m; bytes = b })
-      ∙ rw (applies_yes (get_or bases k 0) entry directory h, subject_from (get_or bases k 0) at entry directory fold e))))
+  -- a file, if it applies
+  applied : (b : Bool) (s : Subject) (o : Option Subject) (f : Subject → Option A) → o ≡ cond b (Some s) None → cond b (f s) None ≡ option_and_then f o
+  applied true s o f q = rw q refl
+  applied false s o f q = rw q refl
 
-  pub file-passed : (k start : ℕ) (before after : Option (Decision A)) → length entry ≤ get_or bases k 0 → after ≡ before
-      → after ≡ override before (last_decision effect (lines_of (file_at rules ends bases k start)))
-  file-passed k start before after h q =
-      q ∙ sym (ap (override before) (file_none effect (file_at rules ends bases k start)
-      (λ n m b. reads (record { file = k; number = n; base = get_or bases k 0; start = m; bytes = b }) ∙ rw (applies_no (get_or bases k 0) entry directory h))))
+  pub file-applies : (rules upto : List ℕ) (k start end base : ℕ) (s : Subject) → Some s ≡ in_file base (subject_of fold 0 e) → upto ≡ take end rules
+      → last_in_file (says s) k upto start ≡ last_decision (effect_on says fold e) (lines_of (file_at rules k start end base))
+  unfolding effect_on
+  file-applies rules upto k start end base s q u =
+      ap (λ (r : List ℕ). last_in_file (says s) k r start) u
+      ∙ sym (file-decided (effect_on says fold e) (says s) (file_at rules k start end base) end rules refl
+      (λ n m b. applied (applies base e) (subject_of fold base e) (Some s) (λ s. says s m b) (q ∙ in_file-subject fold base e)))
+
+  pub file-passed : (rules : List ℕ) (k start end base : ℕ) → None ≡ in_file base (subject_of fold 0 e)
+      → last_decision (effect_on says fold e) (lines_of (file_at rules k start end base)) ≡ None
+  unfolding effect_on
+  file-passed rules k start end base q =
+      file_none (effect_on says fold e) (file_at rules k start end base)
+      (λ n m b. applied (applies base e) (subject_of fold base e) None (λ s. says s m b) (q ∙ in_file-subject fold base e))
 
 -- the two questions
-pub ignore_reads : (fold directory : Bool) (entry : List ℕ) (l : Line)
-    → ignore_effect fold (entry_of entry directory) l
-    ≡ cond (applies l.base (entry_of entry directory)) (ignore_at (subject_of fold l.base (entry_of entry directory)) l.start l.bytes) none
-unfolding ignore_effect ignore_at
-ignore_reads fold directory entry l = refl
+pub ignore_reads : (fold : Bool) (e : Entry) (lines : List Line) → last_decision (effect_on ignore_at fold e) lines ≡ verdict fold lines e
+unfolding verdict ignore_effect ignore_at effect_on
+ignore_reads fold e lines = refl
 
-pub attribute_reads : (fold directory : Bool) (attribute entry : List ℕ) (l : Line)
-    → attribute_effect fold (entry_of entry directory) attribute l
-    ≡ cond (applies l.base (entry_of entry directory)) (attribute_at (subject_of fold l.base (entry_of entry directory)) attribute l.start l.bytes) none
-unfolding attribute_effect attribute_at
-attribute_reads fold directory attribute entry l = refl
+pub attribute_reads : (fold : Bool) (e : Entry) (name : List ℕ) (lines : List Line)
+    → last_decision (effect_on (λ subject. attribute_at subject name) fold e) lines ≡ attribute_state fold name lines e
+unfolding attribute_state attribute_effect attribute_at effect_on
+attribute_reads fold e name lines = refl

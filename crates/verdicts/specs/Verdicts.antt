@@ -1,11 +1,13 @@
 -- Document 01, "Ignore lines" and "Attribute lines": an entry's verdict, an attribute's state, and the rule from the top down.
-use Rattle.std.specs.Prelude.{ℕ, Bool, true, false, cond, List, [], ◌∷◌, ◌++◌, eqb, length}
-use Rattle.std.proofs.Math.Option.{Option, none, some}
+use Rattle.std.specs.Prelude.{ℕ, Bool, true, false, cond, List, [], ◌∷◌, ◌++◌, eqb, length, Option, None, Some}
 use Rattle.bytestrings.specs.Text.{char}
 use Rattle.rulefiles.specs.RuleFiles.{Line}
-use Rattle.rulefiles.specs.Decisions.{Decision, last_decision}
+use Rattle.rulefiles.specs.declared.Decision.{Decision}
+use Rattle.rulefiles.specs.Decisions.{last_decision}
 use Rattle.entries.specs.Entries.{Entry}
-use Rattle.ignorelines.specs.IgnoreLines.{Verdict, ignored, re_included, ignore_effect}
+use Rattle.ignorelines.specs.declared.Verdict.{Verdict}
+use Rattle.ignorelines.specs.declared.Verdict.TheVariants.{Ignored, Reincluded}
+use Rattle.ignorelines.specs.IgnoreLines.{ignore_effect}
 use Rattle.attributelines.specs.AttributeLines.{attribute_effect}
 use Rattle.attributelines.specs.declared.State.{State}
 use Rattle.answers.specs.Complete.{Complete, undecided, decided, stated}
@@ -31,18 +33,18 @@ parents path = parents_from [] path
 
 -- the verdict is "ignored"
 abbrev pub is_ignored : Verdict → Bool
-is_ignored ignored = true
-is_ignored re_included = false
+is_ignored Ignored = true
+is_ignored Reincluded = false
 
 -- an entry with this verdict is ignored
 abbrev pub ignores : Option (Decision Verdict) → Bool
-ignores none = false
-ignores (some d) = is_ignored d.what
+ignores None = false
+ignores (Some d) = is_ignored d.what
 
 -- the answer that the verdict of an entry of n bytes gives: "the path's length, the file and the line"; "nothing said gives no numbers"
 abbrev pub judged : ℕ → Option (Decision Verdict) → Complete
-judged n none = undecided
-judged n (some d) = decided d.what n d.place
+judged n None = undecided
+judged n (Some d) = decided d.what n d.place
 
 -- "The first ignored entry makes the path ignored, and the answer gives its length, file and line. If no parent is ignored, the path's own
 -- verdict is the answer". "The verdict of a directory's own parent is settled first, from the top down": the parents in that order, then the path
@@ -57,5 +59,5 @@ visited v (p ∷ ps) path = p ∷ cond (ignores (v p)) [] (visited v ps path)
 
 -- "The answer holds the state, .. with the file and line, or says that no line spoke."
 abbrev pub state_answer : Option (Decision State) → Complete
-state_answer none = undecided
-state_answer (some d) = stated d.what d.place
+state_answer None = undecided
+state_answer (Some d) = stated d.what d.place

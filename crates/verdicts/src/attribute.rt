@@ -1,34 +1,24 @@
 // An attribute's answer: its state.
-ghost use Rattle.std.specs.Prelude.{◌≡◌};
+ghost use Rattle.std.specs.Prelude.{◌≡◌, Ok};
 ghost use Rattle.rulefiles.specs.RuleFiles.{ordered_lines};
 ghost use Rattle.answers.specs.Complete.{complete_attribute};
 ghost use Rattle.verdicts.specs.Verdicts.{attribute_state, state_answer};
-ghost use Rattle.verdicts.specs.inner.Scan.{state_decision_of};
 
-use crate::state::{AttributeState, attribute_state};
-use answers::AttributeAnswer;
+use crate::rule::AttributeRule;
+use crate::scan::last_decision;
+use attributelines::State;
+use rulefiles::{Decision, RuleFiles};
 
-// The state, as an answer.
-fn state_answer(last: AttributeState) -> AttributeAnswer
-    ensures { complete_attribute result ≡ state_answer (state_decision_of last) }
-{
-    match last {
-        AttributeState::Undecided => AttributeAnswer::Undecided,
-        AttributeState::Decided(s) => AttributeAnswer::Decided(s),
-    }
-}
-
-// The attribute's answer over all files.
+// The attribute's answer over all files: its state, by the last line that says something of it.
 pub fn attribute_answer(
-    rules: &[u8],
-    ends: &[usize],
-    bases: &[usize],
+    files: &RuleFiles,
     path: &[u8],
     attribute: &[u8],
     directory: bool,
     fold: bool,
-) -> AttributeAnswer
-    ensures { complete_attribute result ≡ state_answer (attribute_state fold attribute.now (ordered_lines rules.now ends.now bases.now) (record { bytes = path.now; directory = directory })) }
+) -> Option<Decision<State>>
+    ensures { complete_attribute (Ok result) ≡ state_answer (attribute_state fold attribute.now (ordered_lines files.now.rules.now files.now.ends.now files.now.bases.now) (record { bytes = path.now; directory = directory })) }
 {
-    state_answer(attribute_state(rules, ends, bases, path, attribute, directory, fold))
+    let rule = AttributeRule { name: attribute };
+    last_decision(&rule, files, path, directory, fold)
 }

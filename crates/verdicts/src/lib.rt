@@ -4,6 +4,6 @@
 
 pub mod attribute;
 mod lines;
-mod state;
+mod rule;
+mod scan;
 pub mod topdown;
-mod verdict;

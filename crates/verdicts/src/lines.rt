@@ -4,14 +4,11 @@ ghost use Rattle.verdicts.specs.inner.Scan.{content_start};
 
 use rulefiles::bom_length;
 
-// The rules up to the end of a file.
+// The rules up to the end of a file: for the place of a value they are counted from their start, so it is no part of them.
 pub fn rules_upto(rules: &[u8], end: usize) -> &[u8]
     ensures { result.now ≡ take end rules.now }
 {
-    if end <= rules.len() {
-        return &rules[..end];
-    }
-    rules
+    rules.get(..end).unwrap_or(rules)
 }
 
 // Where the lines of a file start, after its BOM.

@@ -1,94 +1,74 @@
 // A path's answer: its parents from the top down, then the path itself.
-ghost use Rattle.std.specs.Prelude.{◌≡◌};
+ghost use Rattle.std.specs.Prelude.{◌≡◌, Ok};
 ghost use Rattle.rulefiles.specs.RuleFiles.{ordered_lines};
 ghost use Rattle.answers.specs.Complete.{complete_ignore};
 ghost use Rattle.verdicts.specs.Verdicts.{verdict, parents, judged, top_down};
-ghost use Rattle.verdicts.specs.inner.Scan.{verdict_decision_of, ignored_at, first_ignored, ignored_parent_of};
+ghost use Rattle.verdicts.specs.inner.Scan.{ignored_at, first_ignored};
 
-use crate::verdict::{EntryVerdict, entry_verdict};
-use answers::{DecidedEntry, IgnoreAnswer};
+use crate::rule::IgnoreRule;
+use crate::scan::last_decision;
+use answers::DecidedEntry;
 use entries::component_start;
+use ignorelines::Verdict;
+use rulefiles::{Decision, RuleFiles};
 
-// The first of an entry's parents, from the top down, that is ignored, if any is.
-#[derive(Drop)]
-pub enum IgnoredParent {
-    None,
-    First(DecidedEntry),
+// An entry's own verdict, by the last line that says something of it.
+#[tactic(auto, using(crate::proofs::VerdictLaws::ignore_reads))]
+fn entry_verdict(
+    files: &RuleFiles,
+    entry: &[u8],
+    directory: bool,
+    fold: bool,
+) -> Option<Decision<Verdict>>
+    ensures { result ≡ verdict fold (ordered_lines files.now.rules.now files.now.ends.now files.now.bases.now) (record { bytes = entry.now; directory = directory }) }
+{
+    last_decision(&IgnoreRule, files, entry, directory, fold)
 }
 
-// What an entry of this length answers for those below it.
-fn ignored_at(verdict: EntryVerdict, length: usize) -> IgnoredParent
-    ensures { ignored_parent_of result ≡ ignored_at length (verdict_decision_of verdict) }
+// What an entry of this length answers for those below it: only an ignored one does.
+fn ignored_at(verdict: Option<Decision<Verdict>>, length: usize) -> Option<DecidedEntry>
+    ensures { result ≡ ignored_at length verdict }
 {
     match verdict {
-        EntryVerdict::Undecided => IgnoredParent::None,
-        EntryVerdict::Ignored(place) => IgnoredParent::First(DecidedEntry {
-            length: length,
-            place: place,
+        Some(decision) if decision.what == Verdict::Ignored => Some(DecidedEntry {
+            length,
+            decision,
         }),
-        EntryVerdict::Reincluded(_) => IgnoredParent::None,
+        _ => None,
     }
 }
 
-// The first ignored parent of an entry. The parent's own parents are settled first.
-fn first_ignored_parent(
-    rules: &[u8],
-    ends: &[usize],
-    bases: &[usize],
-    entry: &[u8],
-    fold: bool,
-) -> IgnoredParent
-    ensures { ignored_parent_of result ≡ first_ignored (verdict fold (ordered_lines rules.now ends.now bases.now)) (parents entry.now) }
+// The first of an entry's parents, from the top down, that is ignored. The parent's own parents are settled first.
+fn first_ignored_parent(files: &RuleFiles, entry: &[u8], fold: bool) -> Option<DecidedEntry>
+    ensures { result ≡ first_ignored (verdict fold (ordered_lines files.now.rules.now files.now.ends.now files.now.bases.now)) (parents entry.now) }
 {
-    let at = component_start(entry);
-    if at == 0 {
-        return IgnoredParent::None;
-    }
-    let n = at - 1;
-    let parent = first_ignored_parent(rules, ends, bases, &entry[..n], fold);
-    match parent {
-        IgnoredParent::First(d) => IgnoredParent::First(d),
-        IgnoredParent::None => ignored_at(
-            entry_verdict(rules, ends, bases, &entry[..n], true, fold),
-            n,
-        ),
+    let n = component_start(entry).checked_sub(1)?;
+    let parent = &entry[..n];
+    match first_ignored_parent(files, parent, fold) {
+        Some(d) => Some(d),
+        None => ignored_at(entry_verdict(files, parent, true, fold), n),
     }
 }
 
 // What an entry of this length answers by its own verdict.
-fn judge(verdict: EntryVerdict, length: usize) -> IgnoreAnswer
-    ensures { complete_ignore result ≡ judged length (verdict_decision_of verdict) }
+#[tactic(auto, unfolding(answers::specs::Complete::complete_ignore))]
+fn judge(verdict: Option<Decision<Verdict>>, length: usize) -> Option<DecidedEntry>
+    ensures { complete_ignore (Ok result) ≡ judged length verdict }
 {
-    match verdict {
-        EntryVerdict::Undecided => IgnoreAnswer::Undecided,
-        EntryVerdict::Ignored(place) => IgnoreAnswer::Ignored(DecidedEntry {
-            length: length,
-            place: place,
-        }),
-        EntryVerdict::Reincluded(place) => IgnoreAnswer::Reincluded(DecidedEntry {
-            length: length,
-            place: place,
-        }),
-    }
+    verdict.map(|decision| DecidedEntry { length, decision })
 }
 
 // The path's answer: the rule from the top down.
 pub fn judge_path(
-    rules: &[u8],
-    ends: &[usize],
-    bases: &[usize],
+    files: &RuleFiles,
     path: &[u8],
     directory: bool,
     fold: bool,
-) -> IgnoreAnswer
-    ensures { complete_ignore result ≡ top_down (verdict fold (ordered_lines rules.now ends.now bases.now)) (parents path.now) (record { bytes = path.now; directory = directory }) }
+) -> Option<DecidedEntry>
+    ensures { complete_ignore (Ok result) ≡ top_down (verdict fold (ordered_lines files.now.rules.now files.now.ends.now files.now.bases.now)) (parents path.now) (record { bytes = path.now; directory = directory }) }
 {
-    let parent = first_ignored_parent(rules, ends, bases, path, fold);
-    match parent {
-        IgnoredParent::First(d) => IgnoreAnswer::Ignored(d),
-        IgnoredParent::None => judge(
-            entry_verdict(rules, ends, bases, path, directory, fold),
-            path.len(),
-        ),
+    match first_ignored_parent(files, path, fold) {
+        Some(d) => Some(d),
+        None => judge(entry_verdict(files, path, directory, fold), path.len()),
     }
 }

@@ -1,90 +1,76 @@
 -- Where what was put ends: the laws behind specs/Places.antt.
 use Prim.Native.Nat.{ℕ, ◌+◌, ◌≤◌, ◌<◌}
-use mathlib.Core.Path.{◌≡◌, refl, sym, ap, ◌∙◌}
-use mathlib.Core.Bool.{Bool, true, false}
-use mathlib.Core.List.{List, [], ◌∷◌}
+use mathlib.Core.Path.{◌≡◌, refl, ap, ◌∙◌}
 use native.Mathlib.Numerals.{add-one}
+use mathlib.Core.Bool.{Bool, true, false, not, ◌||◌, ◌&&◌}
+use mathlib.Core.List.{List, [], ◌∷◌}
 use native.Mathlib.Omega.{arith}
-use borrow.Author.Tests.{le-leb, lt-leb, eq-eqb, ne_eqb}
-use lib.Dec.{eqb}
+use borrow.Author.Tests.{le-leb, lt-leb}
 use lib.ListN.{length, drop, get_or, drop_of_length-le}
 use lib.Seq.{drop-cons}
-use Rattle.bytestrings.specs.Text.{char}
-use Rattle.bytestrings.specs.Bytes.{first_is}
+use Rattle.std.specs.List.{list_any}
+use Rattle.std.specs.Char.{is_ascii_control}
+use Rattle.std.proofs.lemmas.Bool.Decides.{nat_tests}
+use Rattle.std.specs.Prelude.{Option, Some, None}
 use Rattle.io.specs.Digits.{IsDigitCount}
+use Rattle.whichline.specs.Filled.{Filled}
 use Rattle.whichline.specs.Places.{after, control, letter_of, after_quoted, after_bytes, is_text, plain, after_field, reason_length, AfterRefusal}
 
-pub after_fits : (room place n : ℕ) → place + n ≤ room → place + n ≡ after room place n
+pub after_fits : (out : Filled) (n : ℕ) → out.at + n ≤ out.room → record { room = out.room; at = out.at + n } ≡ after out n
 unfolding after
-after_fits room place n h = rw (le-leb (place + n) room h)
+after_fits out n h = rw (le-leb (out.at + n) out.room h)
 
-pub after_full : (room place n : ℕ) → room < place + n → place ≡ after room place n
+pub after_full : (out : Filled) (n : ℕ) → out.room < out.at + n → out ≡ after out n
 unfolding after
-after_full room place n h = rw (lt-leb (place + n) room h)
+after_full out n h = rw (lt-leb (out.at + n) out.room h)
+
+-- the library's test, and its word for each byte of a text
+pub control_is : (b : ℕ) (r : Bool) → r ≡ is_ascii_control b → r ≡ control b
+unfolding control
+control_is b r e = e ∙ grind (arith, nat_tests)
+
+none : (s : List ℕ) → not (list_any control s) ≡ is_text s
+none [] = refl
+none (b ∷ s) = not-or (control b) (list_any control s) ∙ ap (λ (r : Bool). not (control b) && r) (none s)
+  where
+    not-or : (x y : Bool) → not (x || y) ≡ (not x && not y)
+    not-or true y = refl
+    not-or false y = refl
+
+pub none_control : (s : List ℕ) (r : Bool) → r ≡ list_any control s → not r ≡ is_text s
+none_control s r e = ap not e ∙ none s
 
 -- a byte between quotes: two bytes for one that has a letter
-pub quoted_letter : (room more place b l p r : ℕ) → l ≡ letter_of b → (l ≡ 0 → ⊥) → p ≡ after room place 1 → r ≡ after more p 1 → more ≡ room → r ≡ after_quoted room place b
+pub quoted_letter : (out p r : Filled) (b l : ℕ) (o : Option ℕ) → o ≡ letter_of b → o ≡ Some l → p ≡ after out 1 → r ≡ after p 1 → r ≡ after_quoted out b
 unfolding after_quoted
-quoted_letter room more place b l p r e h f g m = rw (← e, ne_eqb l 0 h, ← f, ← m) g
+quoted_letter out p r b l o e h f g = rw (← e, h, ← f) g
 
-pub quoted_itself : (room place b l r : ℕ) → l ≡ letter_of b → l ≡ 0 → control b ≡ false → r ≡ after room place 1 → r ≡ after_quoted room place b
+pub quoted_digits : (out r : Filled) (b : ℕ) (o : Option ℕ) → o ≡ letter_of b → o ≡ None → true ≡ control b → r ≡ after out 4 → r ≡ after_quoted out b
 unfolding after_quoted
-quoted_itself room place b l r e h f g = rw (← e, h, f) g
+quoted_digits out r b o e h f g = rw (← e, h, ← f) g
 
-pub quoted_digits : (room place b l r : ℕ) → l ≡ letter_of b → l ≡ 0 → control b ≡ true → r ≡ after room place 4 → r ≡ after_quoted room place b
+pub quoted_itself : (out r : Filled) (b : ℕ) (o : Option ℕ) → o ≡ letter_of b → o ≡ None → false ≡ control b → r ≡ after out 1 → r ≡ after_quoted out b
 unfolding after_quoted
-quoted_digits room place b l r e h f g = rw (← e, h, f) g
+quoted_itself out r b o e h f g = rw (← e, h, ← f) g
 
 -- the bytes of a field, one after the other
-pub bytes_turn : (room more first place r : ℕ) (s : List ℕ) (i : ℕ) → i < length s
-    → r ≡ after_quoted more place (get_or s i 0) → after_bytes room first s ≡ after_bytes room place (drop i s) → more ≡ room
-    → after_bytes room first s ≡ after_bytes room r (drop (i + 1) s)
-bytes_turn room more first place r s i h e f m = f ∙ rw (drop-cons s i 0 h, add-one i, e, m)
+pub bytes_turn : (all out r : Filled) (s : List ℕ) (i : ℕ) → i < length s
+    → all ≡ after_bytes out (drop i s) → r ≡ after_quoted out (get_or s i 0) → all ≡ after_bytes r (drop (i + 1) s)
+bytes_turn all out r s i h f e = f ∙ rw (drop-cons s i 0 h, add-one i, e) refl
 
-pub bytes_end : (room first place : ℕ) (s : List ℕ) (i : ℕ) → length s ≤ i → after_bytes room first s ≡ after_bytes room place (drop i s) → after_bytes room first s ≡ place
-bytes_end room first place s i h f = f ∙ rw (drop_of_length-le s h)
-
-pub text_next : (s : List ℕ) (i : ℕ) → i < length s → control (get_or s i 0) ≡ false → is_text (drop i s) ≡ is_text (drop (i + 1) s)
-text_next s i h e = rw (drop-cons s i 0 h, add-one i, e)
-
-pub text_stops : (s : List ℕ) (i : ℕ) → i < length s → control (get_or s i 0) ≡ true → is_text (drop i s) ≡ false
-text_stops s i h e = rw (drop-cons s i 0 h, e)
-
-pub text-ends : (s : List ℕ) (i : ℕ) → length s ≤ i → is_text (drop i s) ≡ true
-text-ends s i h = rw (drop_of_length-le s h)
-
--- whether a field is plain: by its first byte, and by the text behind it
-pub empty_plain : (s : List ℕ) → length s ≡ 0 → true ≡ plain s
-unfolding plain
-empty_plain [] h = refl
-empty_plain (x ∷ s) h = absurd (omega arith)
-
-first_is_lem : (b : ℕ) (s : List ℕ) → (length s ≡ 0 → ⊥) → first_is b s ≡ eqb (get_or s 0 0) b
-first_is_lem b [] h = absurd (h refl)
-first_is_lem b (x ∷ s) h = refl
-
-pub quote_first : (s : List ℕ) → (length s ≡ 0 → ⊥) → get_or s 0 0 ≡ char "\"" → false ≡ plain s
-unfolding plain
-quote_first s h e = rw (first_is_lem (char "\"") s h, eq-eqb (get_or s 0 0) (char "\"") e)
-
-pub plain-text : (s : List ℕ) (t : Bool) → (length s ≡ 0 → ⊥) → (get_or s 0 0 ≡ char "\"" → ⊥) → is_text s ≡ t → t ≡ plain s
-unfolding plain
-plain-text s t h e f = rw (first_is_lem (char "\"") s h, ne_eqb (get_or s 0 0) (char "\"") e) (sym f)
+pub bytes_end : (all out : Filled) (s : List ℕ) (i : ℕ) → length s ≤ i → all ≡ after_bytes out (drop i s) → all ≡ out
+bytes_end all out s i h f = f ∙ rw (drop_of_length-le s h) refl
 
 -- a field is put as it is, or between quotes
-pub field_plain : (room place r : ℕ) (s : List ℕ) → plain s ≡ true → r ≡ after room place (length s) → r ≡ after_field room place s
+pub field_plain : (out r : Filled) (s : List ℕ) → true ≡ plain s → r ≡ after out (length s) → r ≡ after_field out s
 unfolding after_field
-field_plain room place r s e f = rw e f
+field_plain out r s e f = rw (← e) f
 
-pub field_quoted : (room inner more place first last r : ℕ) (s : List ℕ) → plain s ≡ false → first ≡ after room place 1 → after_bytes inner first s ≡ last → r ≡ after more last 1 → more ≡ room
-    → inner ≡ room
-    → r ≡ after_field room place s
+pub field_quoted : (out first last r : Filled) (s : List ℕ) → false ≡ plain s → first ≡ after out 1 → after_bytes first s ≡ last → r ≡ after last 1 → r ≡ after_field out s
 unfolding after_field
-field_quoted room inner more place first last r s e f g h m k = rw (e, ← f, ← k, g, k, ← m) h
+field_quoted out first last r s e f g h = rw (← e, ← f, g) h
 
--- the parts of a refusal, put one after the other into a buffer that keeps its length
-pub refusal-put : (out : List ℕ) (second third fourth place word n number colon r : ℕ) → word ≡ after (length out) place 8
-    → (digits : ℕ) × IsDigitCount 10 1 n digits × (number ≡ after second word digits)
-    → colon ≡ after third number 2 → r ≡ after fourth colon (reason_length n) → second ≡ length out → third ≡ length out → fourth ≡ length out → AfterRefusal out place n r
-refusal-put out second third fourth place word n number colon r e f g h s t u =
-    (number, (f.0, f.1, rw (← e, ← s) f.2), (rw u at h) ∙ ap (λ (x : ℕ). after (length out) x (reason_length n)) (rw t at g))
+-- the parts of a refusal, put one after the other
+pub refusal_put : (out word number colon r : Filled) (n : ℕ) → word ≡ after out 8 → (digits : ℕ) × IsDigitCount 10 1 n digits × (number ≡ after word digits)
+    → colon ≡ after number 2 → r ≡ after colon (reason_length n) → AfterRefusal out n r
+refusal_put out word number colon r n e f g h = (number, (f.0, f.1, rw (← e) f.2), rw (← g) h)

@@ -9,9 +9,9 @@ use Rattle.bytestrings.specs.Text.{char}
 use Rattle.entries.specs.Entries.{without_last_slash}
 use Rattle.bytestrings.proofs.ByteLaws.{ends_last, without_last_lem}
 
-pub nothing-kept : (s : List ℕ) → length s ≡ 0 → s ≡ without_last_slash s
-nothing-kept [] h = refl
-nothing-kept (x ∷ s) h = absurd (omega arith)
+pub nothing_kept : (s : List ℕ) → length s ≡ 0 → s ≡ without_last_slash s
+nothing_kept [] h = refl
+nothing_kept (x ∷ s) h = absurd (omega arith)
 
 pub slash_goes : (s : List ℕ) → (length s ≡ 0 → ⊥) → get_or s (length s - 1) 0 ≡ char "/" → take (length s - 1) s ≡ without_last_slash s
 slash_goes s h e =

@@ -1,3 +1,4 @@
+pub mod Filled
 pub mod Places
 pub mod Listing
 pub mod Bounds

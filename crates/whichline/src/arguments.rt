@@ -1,18 +1,16 @@
 // The program's arguments.
-ghost use Rattle.std.specs.Prelude.{◌≤◌, length};
-ghost use Rattle.whichline.specs.Bounds.{Named};
-
+use crate::messages;
+use crate::messages::Said;
 use std::env::{Env, FillError};
 
-// What is asked: the first argument and, for an attribute, the length of its name.
-#[derive(Drop)]
-pub enum Asked {
+// What is asked of each path: the ignore question, or the attribute question for a name.
+#[derive(Clone, Copy)]
+pub enum Question<'a> {
     Ignore,
-    Attribute(usize),
-    Wrong,
+    Attribute(&'a [u8]),
 }
 
-// How many arguments there are, the program's name among them.
+// How many arguments there are, the program's name among them. The last number is no failure: a proved loop ends, and no program has so many.
 pub fn count(rt: HostRuntime) -> usize {
     let mut word = io::buffer();
     for i in 0..usize::MAX {
@@ -23,22 +21,18 @@ pub fn count(rt: HostRuntime) -> usize {
     usize::MAX
 }
 
-// Puts argument `i` at the front of `word`, and answers how many bytes it has: none where there is no such argument, or no room for it.
-pub fn get(rt: HostRuntime, i: usize, word: &mut [u8]) -> usize
-    ensures { result ≤ length word.new }
-{
-    match rt.arg(i, word) {
-        Ok(n) => n,
-        Err(_) => 0,
-    }
+// Argument `i`, for which there is room in `word`, or none where there is no such argument or no room for it.
+pub fn get<'a>(rt: HostRuntime, i: usize, word: &'a mut [u8]) -> Option<&'a [u8]> {
+    let n = rt.arg(i, word).ok()?;
+    Some(&word[..n])
 }
 
 // Whether argument `i` is these bytes. The arguments come from the outside, so no contract can say what this answers.
 pub fn is(rt: HostRuntime, i: usize, bytes: &[u8]) -> bool {
     let mut word = io::buffer();
-    match rt.arg(i, &mut word) {
-        Ok(n) => check::same(&word[..n], bytes),
-        Err(_) => false,
+    match get(rt, i, &mut word) {
+        Some(argument) => argument == bytes,
+        None => false,
     }
 }
 
@@ -47,22 +41,25 @@ pub fn is_option(rt: HostRuntime, i: usize) -> bool {
     is(rt, i, b"--fold") || is(rt, i, b"--in")
 }
 
-// What is asked; an attribute's name is put at the front of `name`. Of one that is too long for that the front will do: it is refused.
-pub fn what_is_asked(rt: HostRuntime, name: &mut [u8]) -> Asked
-    ensures { Named result name.new }
-{
+// Says how it is asked.
+fn not_asked(rt: HostRuntime) -> Said {
+    messages::wrong(
+        rt,
+        b"say `ignore`, or `attribute` and its name, and then the rule files",
+    )
+}
+
+// What is asked; there is room in `name` for an attribute's name. Of one that is too long for that the front will do: it is refused.
+pub fn what_is_asked<'a>(rt: HostRuntime, name: &'a mut [u8]) -> Result<Question<'a>, Said> {
     if is(rt, 1, b"ignore") {
-        return Asked::Ignore;
+        return Ok(Question::Ignore);
     }
-    if !is(rt, 1, b"attribute") {
-        return Asked::Wrong;
-    }
-    if is_option(rt, 2) {
-        return Asked::Wrong;
+    if !is(rt, 1, b"attribute") || is_option(rt, 2) {
+        return Err(not_asked(rt));
     }
     match rt.arg(2, name) {
-        Ok(n) => Asked::Attribute(n),
-        Err(FillError::TooLong) => Asked::Attribute(name.len()),
-        Err(FillError::NotPresent) => Asked::Wrong,
+        Ok(n) => Ok(Question::Attribute(&name[..n])),
+        Err(FillError::TooLong) => Ok(Question::Attribute(name)),
+        Err(FillError::NotPresent) => Err(not_asked(rt)),
     }
 }

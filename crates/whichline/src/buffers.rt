@@ -1,5 +1,5 @@
 // The program's buffers, on the stack: about 1 MB in all, of the 8 MB that a program is usually given. Each comes from a function, so
-// that a proof knows its length and does not spell it out.
+// that a proof knows its length and does not spell it out. One function of a type and a length would be called with both each time.
 ghost use Rattle.std.specs.Prelude.{◌≡◌, length};
 
 // For rule files, end to end: 262,144 bytes, and one more by which it is seen that there are no more.

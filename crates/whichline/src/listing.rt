@@ -1,9 +1,11 @@
 // The paths of a listing, one a line, read piece by piece from standard input.
-ghost use Rattle.std.specs.Prelude.{◌≤◌, ◌<◌, ◌≡◌, length};
+ghost use Rattle.std.specs.Prelude.{◌≤◌, ◌<◌, ◌≡◌, length, IfOk};
 ghost use Rattle.whichline.specs.Listing.{nothing_read, line_end, found_line, ended as ended_line, unended as unended_line, looked};
 ghost use Rattle.whichline.specs.Bounds.{AtFront};
 
-use crate::{messages, reading};
+use crate::fields::Out;
+use crate::messages::Said;
+use crate::{given, messages, reading};
 use bytestrings::find_byte;
 
 // How much of a line is kept: more than any path that is taken has. What a longer line has behind it is passed over.
@@ -28,8 +30,15 @@ pub struct Line {
     pub after: Unread,
 }
 
+// A path as the listing has it: a whole line, or the front of one that is too long.
+#[derive(Clone, Copy)]
+pub struct Entry<'a> {
+    pub line: &'a [u8],
+    pub cut: bool,
+}
+
 // What the unread bytes come to: a line, the end, or nothing yet: then with more bytes, or just with these.
-#[derive(Drop)]
+#[derive(Clone, Copy)]
 pub enum Found {
     Next(Line),
     Over,
@@ -37,159 +46,159 @@ pub enum Found {
     Again(Unread),
 }
 
-// Nothing is read yet.
-pub fn at_start() -> Unread
-    ensures { result ≡ nothing_read }
-{
-    Unread {
-        start: 0,
-        have: 0,
-        passing: false,
-        over: false,
-    }
-}
-
 // Where the first unread line ends, if it ends in what is read; else where that ends.
+#[tactic(auto, unfolding(crate::specs::Listing::line_end))]
 fn line_end(buf: &[u8], start: usize, have: usize) -> usize
     ensures { result ≡ line_end buf.now start have }
 {
-    if have > buf.len() {
-        return have;
-    }
-    if start > have {
+    if have > buf.len() || start > have {
         return have;
     }
     find_byte(&buf[..have], start, b'\n')
 }
 
 // A line, or its front if it is too long.
+#[tactic(auto, unfolding(crate::specs::Listing::found_line))]
 fn found_line(start: usize, end: usize, after: Unread) -> Found
     ensures { result ≡ found_line start end after }
 {
     if end < start {
         return Found::Over;
     }
-    if end - start <= KEPT {
-        return Found::Next(Line {
-            start: start,
-            end: end,
-            cut: false,
-            after: after,
-        });
-    }
+    let cut = end - start > KEPT;
     Found::Next(Line {
-        start: start,
-        end: start + KEPT,
-        cut: true,
-        after: after,
+        start,
+        end: if cut { start + KEPT } else { end },
+        cut,
+        after,
     })
-}
-
-// The line whose newline stands at `end`, unless it is the rest of one that was too long.
-fn ended(u: Unread, end: usize) -> Found
-    ensures { end < u.have → result ≡ ended_line u end }
-{
-    if end >= u.have {
-        return Found::Over;
-    }
-    let after = Unread {
-        start: end + 1,
-        have: u.have,
-        passing: false,
-        over: u.over,
-    };
-    if u.passing {
-        return Found::Again(after);
-    }
-    found_line(u.start, end, after)
-}
-
-// What unread bytes without a newline come to. At the end of the input they are the last line, if there are any.
-fn unended(u: Unread) -> Found
-    ensures { result ≡ unended_line u }
-{
-    let rest = Unread {
-        start: u.have,
-        have: u.have,
-        passing: true,
-        over: u.over,
-    };
-    if u.start >= u.have {
-        return if u.over { Found::Over } else { Found::More(u) };
-    }
-    if u.passing {
-        return if u.over {
-            Found::Over
-        } else {
-            Found::More(rest)
-        };
-    }
-    if u.have - u.start > KEPT {
-        return found_line(u.start, u.have, rest);
-    }
-    if u.over {
-        return found_line(u.start, u.have, rest);
-    }
-    Found::More(u)
 }
 
 // Moves the unread bytes to the front, and answers how many there are.
 fn move_front(buf: &mut [u8], start: usize, have: usize) -> usize
     ensures { result ≤ length buf.new }
 {
-    if have > buf.len() {
+    if have > buf.len() || start > have {
         return 0;
     }
-    let mut n = 0;
-    let mut i = start;
-    while i < have {
-        buf[n] = buf[i];
-        n += 1;
-        i += 1;
-    }
-    n
+    buf.copy_within(start..have, 0);
+    have - start
 }
 
-// Nothing more is answered, not even an unfinished line: the input could not be read to its end, which was said.
-fn unreadable() -> Unread
-    ensures { (result.start ≡ 0) × (result.have ≡ 0) }
-{
-    Unread {
-        start: 0,
-        have: 0,
-        passing: true,
-        over: true,
+impl Line {
+    pub fn entry(self, input: &[u8]) -> Option<Entry> {
+        let line = input.get(self.start..self.end)?;
+        Some(Entry {
+            line,
+            cut: self.cut,
+        })
     }
 }
 
-// Reads more behind the unread bytes. There is room: no more than a line's front is kept.
-pub fn read_more(rt: HostRuntime, buf: &mut [u8], u: Unread) -> Unread
-    ensures { AtFront result buf.new }
-{
-    let have = move_front(buf, u.start, u.have);
-    if have >= buf.len() {
-        messages::about(rt, b"standard input", b"no room to read more");
-        return unreadable();
+impl<'a> Entry<'a> {
+    // The path: without its last slash, if the line is whole.
+    pub fn path(self) -> &'a [u8] {
+        if self.cut {
+            return self.line;
+        }
+        given::without_slash(self.line)
     }
-    let n = reading::read_some(rt, &mut rt.stdin(), b"standard input", &mut buf[have..]);
-    if n > buf.len() - have {
-        return unreadable();
-    }
-    Unread {
-        start: 0,
-        have: have + n,
-        passing: u.passing,
-        over: n == 0,
+
+    // Puts the path as the listing has it; of a line that is too long, its front and three dots.
+    pub fn put(self, out: &mut Out) {
+        out.put_field(self.line);
+        if self.cut {
+            out.put(b"...");
+        }
     }
 }
 
-// What the unread bytes come to.
-pub fn look(buf: &[u8], u: Unread) -> Found
-    ensures { result ≡ looked buf.now u }
-{
-    let end = line_end(buf, u.start, u.have);
-    if end < u.have {
-        return ended(u, end);
+impl Unread {
+    // Nothing is read yet.
+    pub fn at_start() -> Unread
+        ensures { result ≡ nothing_read }
+    {
+        Unread {
+            start: 0,
+            have: 0,
+            passing: false,
+            over: false,
+        }
     }
-    unended(u)
+
+    // The line whose newline stands at `end`, unless it is the rest of one that was too long.
+    #[tactic(auto, unfolding(crate::specs::Listing::ended))]
+    fn ended(self, end: usize) -> Found
+        requires { end < self.have }
+        ensures { result ≡ ended_line self end }
+    {
+        let after = Unread {
+            start: end + 1,
+            passing: false,
+            ..self
+        };
+        if self.passing {
+            return Found::Again(after);
+        }
+        found_line(self.start, end, after)
+    }
+
+    // What unread bytes without a newline come to. At the end of the input they are the last line, if there are any.
+    #[tactic(auto, unfolding(crate::specs::Listing::unended))]
+    fn unended(self) -> Found
+        ensures { result ≡ unended_line self }
+    {
+        let rest = Unread {
+            start: self.have,
+            passing: true,
+            ..self
+        };
+        if self.start >= self.have {
+            return if self.over {
+                Found::Over
+            } else {
+                Found::More(self)
+            };
+        }
+        if self.passing {
+            return if self.over {
+                Found::Over
+            } else {
+                Found::More(rest)
+            };
+        }
+        if self.have - self.start > KEPT || self.over {
+            return found_line(self.start, self.have, rest);
+        }
+        Found::More(self)
+    }
+
+    // What the unread bytes come to.
+    #[tactic(auto, unfolding(crate::specs::Listing::looked))]
+    pub fn look(self, buf: &[u8]) -> Found
+        ensures { result ≡ looked buf.now self }
+    {
+        let end = line_end(buf, self.start, self.have);
+        if end < self.have {
+            return self.ended(end);
+        }
+        self.unended()
+    }
+
+    // Reads more behind the unread bytes. There is room: no more than a line's front is kept.
+    pub fn read_more(self, rt: HostRuntime, buf: &mut [u8]) -> Result<Unread, Said>
+        ensures { IfOk result (λ unread. AtFront unread buf.new) }
+    {
+        let have = move_front(buf, self.start, self.have);
+        if have >= buf.len() {
+            return Err(messages::about(rt, b"standard input", b"no room to read more"));
+        }
+        let n = reading::read_some(rt, &mut rt.stdin(), b"standard input", &mut buf[have..])?;
+        Ok(Unread {
+            start: 0,
+            have: have + n,
+            over: n == 0,
+            ..self
+        })
+    }
 }

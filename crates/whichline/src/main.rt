@@ -12,19 +12,18 @@ mod messages;
 mod reading;
 mod written;
 
-use crate::arguments::Asked;
+use crate::messages::Said;
 
 // Whether any argument asks for help.
 fn wants_help(rt: HostRuntime) -> bool {
-    let n = arguments::count(rt);
-    let mut i = 1;
-    while i < n {
-        if arguments::is(rt, i, b"--help") {
-            return true;
-        }
-        i += 1;
-    }
-    false
+    (1..arguments::count(rt)).any(|i| arguments::is(rt, i, b"--help"))
+}
+
+// Reads what is asked, and answers it.
+fn answer(rt: HostRuntime) -> Result<(), Said> {
+    let mut name = io::buffer();
+    let question = arguments::what_is_asked(rt, &mut name)?;
+    asking::run(rt, question)
 }
 
 fn main(rt: HostRuntime) {
@@ -32,21 +31,6 @@ fn main(rt: HostRuntime) {
         messages::help(rt);
         return;
     }
-    let mut name = io::buffer();
-    let asked = arguments::what_is_asked(rt, &mut name);
-    match asked {
-        Asked::Ignore => asking::run(rt, false, &name, 2),
-        Asked::Attribute(n) => run_attribute(rt, &name, n),
-        Asked::Wrong => messages::wrong(
-            rt,
-            b"say `ignore`, or `attribute` and its name, and then the rule files",
-        ),
-    }
-}
-
-// Asks for the attribute whose name is the first `n` bytes.
-fn run_attribute(rt: HostRuntime, name: &[u8], n: usize) {
-    if n <= name.len() {
-        asking::run(rt, true, &name[..n], 3);
-    }
+    // What went wrong was said where it did.
+    let _ = answer(rt);
 }

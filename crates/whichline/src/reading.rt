@@ -1,9 +1,9 @@
 // Reading files and standard input.
-ghost use Rattle.whichline.specs.Bounds.{WithinOrFailed, BehindOrFailed};
+ghost use Rattle.std.specs.Prelude.{◌≤◌, length, IfOk};
 
-use crate::fields::{append, append_number};
+use crate::fields::Out;
 use crate::messages;
-use rulefiles::file_part;
+use crate::messages::Said;
 use std::env::Env;
 use std::fs::File;
 use std::io::{Error, ErrorKind, Read};
@@ -13,21 +13,25 @@ use std::str;
 // that this variable names.
 const LINKS: &str = "WHICHLINE_LINKS";
 
-// Puts the name of the link of argument `i` at the front of `path`, and answers how many bytes it has: none where no link is lent.
-fn put_link(rt: HostRuntime, i: usize, path: &mut [u8]) -> usize {
-    let Ok(n) = rt.var(LINKS, path) else {
-        return 0;
+// Puts the name of the link of argument `i`, and says whether one is lent.
+fn put_link(rt: HostRuntime, i: usize, out: &mut Out) -> bool {
+    let mut folder = io::buffer();
+    let Ok(n) = rt.var(LINKS, &mut folder) else {
+        return false;
     };
-    let a = append(path, n, b"/");
-    append_number(path, a, i as u64)
+    out.put(&folder[..n]);
+    out.put(b"/");
+    out.put_number(i as u64);
+    true
 }
 
 // Opens the file of argument `i` by its link.
 fn open_link(rt: HostRuntime, i: usize) -> Result<File, Error> {
     let mut path = io::buffer();
-    let n = put_link(rt, i, &mut path);
-    match str::from_utf8(file_part(&path, 0, n)) {
-        Ok(link) if n > 0 => File::open(&rt, link),
+    let mut out = Out::new(&mut path);
+    let lent = put_link(rt, i, &mut out);
+    match str::from_utf8(out.filled()) {
+        Ok(link) if lent => File::open(&rt, link),
         _ => Err(Error::new(
             ErrorKind::InvalidFilename,
             "a name that is not UTF-8 is opened by bin/whichline alone",
@@ -43,47 +47,43 @@ fn open(rt: HostRuntime, i: usize, name: &[u8]) -> Result<File, Error> {
     }
 }
 
-// Reads once into `part` and answers how many bytes came, 0 at the end; the largest number where the read failed, which is said of `what`.
-pub fn read_some<R: Read>(rt: HostRuntime, from: &mut R, what: &[u8], part: &mut [u8]) -> usize
-    ensures { WithinOrFailed result part.new }
+// Reads once into `part` and answers how many bytes came, 0 at the end. Where the read fails, that is said of `what`.
+pub fn read_some<R: Read>(
+    rt: HostRuntime,
+    from: &mut R,
+    what: &[u8],
+    part: &mut [u8],
+) -> Result<usize, Said>
+    ensures { IfOk result (λ n. n ≤ length part.new) }
 {
     match from.read(part) {
-        Ok(n) => n,
-        Err(e) => {
-            messages::failed(rt, what, e);
-            usize::MAX
-        }
+        Ok(n) => Ok(n),
+        Err(e) => Err(messages::failed(rt, what, e)),
     }
 }
 
-// Reads a file to its end, behind the `used` bytes of a buffer, and answers where it ends there: the buffer's length if that is
-// full, the largest number if a read failed, which is said of the file's name.
-fn read_behind(rt: HostRuntime, file: &mut File, name: &[u8], buf: &mut [u8], used: usize) -> usize
-    ensures { BehindOrFailed used result buf.new }
+// (std reads to the end into a Vec alone, and this program has no heap, so the place is counted here.)
+// Reads a file until it ends or `part` is full, and answers how many bytes came. Where a read fails, that is said of the file's name.
+fn read_all(rt: HostRuntime, file: &mut File, name: &[u8], part: &mut [u8]) -> Result<usize, Said>
+    ensures { IfOk result (λ n. n ≤ length part.new) }
 {
-    let mut at = used;
-    while at < buf.len() {
-        let n = read_some(rt, file, name, &mut buf[at..]);
+    let mut at = 0;
+    while at < part.len() {
+        let n = read_some(rt, file, name, &mut part[at..])?;
         if n == 0 {
-            return at;
-        }
-        if n > buf.len() - at {
-            return usize::MAX;
+            break;
         }
         at += n;
     }
-    at
+    Ok(at)
 }
 
-// The same for the file that argument `i` names. Says what is wrong with it, and then answers the largest number too.
-pub fn read_file(rt: HostRuntime, i: usize, name: &[u8], buf: &mut [u8], used: usize) -> usize
-    ensures { BehindOrFailed used result buf.new }
+// The same for the file that argument `i` names; what is wrong with it is said.
+pub fn read_file(rt: HostRuntime, i: usize, name: &[u8], part: &mut [u8]) -> Result<usize, Said>
+    ensures { IfOk result (λ n. n ≤ length part.new) }
 {
     match open(rt, i, name) {
-        Ok(mut file) => read_behind(rt, &mut file, name, buf, used),
-        Err(e) => {
-            messages::failed(rt, name, e);
-            usize::MAX
-        }
+        Ok(mut file) => read_all(rt, &mut file, name, part),
+        Err(e) => Err(messages::failed(rt, name, e)),
     }
 }

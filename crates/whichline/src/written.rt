@@ -1,177 +1,132 @@
 // An answer, written: its word, and where a line decided, the entry, the rule file and the line's number.
+ghost use Rattle.refusals.specs.Numbers.{number_of};
 ghost use Rattle.whichline.specs.Places.{Onward, AfterRefusal, AfterIgnore, AfterAttribute};
 
-use crate::fields::{append, append_field, append_number};
+use crate::fields::Out;
 use crate::{arguments, messages};
-use answers::{AttributeAnswer, DecidedEntry, DecidedState, IgnoreAnswer};
+use answers::{AttributeAnswer, DecidedEntry, IgnoreAnswer};
 use attributelines::State;
-use rulefiles::Place;
+use ignorelines::Verdict;
+use refusals::Refusal;
+use rulefiles::{Decision, Place};
 
-// Puts the name of the rule file that argument `i` names.
-fn append_name(rt: HostRuntime, out: &mut [u8], at: usize, i: usize) -> usize
-    ensures { Onward out.old at result }
-{
-    let mut name = io::buffer();
-    let n = arguments::get(rt, i, &mut name);
-    append_field(out, at, &name[..n])
+// What an answer is about: the path as the listing has it, the lent rules, which of the given files each lent file is, and which argument names
+// each of those.
+#[derive(Clone, Copy)]
+pub struct Asked<'a> {
+    pub line: &'a [u8],
+    pub rules: &'a [u8],
+    pub numbers: &'a [usize],
+    pub names: &'a [usize],
 }
 
-// Puts the rule file and the line, each after a tab. `numbers` says which of the given files was lent, `names` which argument names it.
-fn append_place(
-    rt: HostRuntime,
-    out: &mut [u8],
-    at: usize,
-    place: Place,
-    numbers: &[usize],
-    names: &[usize],
-) -> usize
-    ensures { Onward out.old at result }
+// Puts the name of the rule file that argument `i` names.
+fn put_name(rt: HostRuntime, out: &mut Out, i: usize)
+    ensures { Onward out.old out.new }
 {
-    let file = place.file;
-    if file >= numbers.len() {
-        return at;
-    }
-    let number = numbers[file];
-    if number >= names.len() {
-        return at;
-    }
-    let a = append(out, at, b"\t");
-    let b = append_name(rt, out, a, names[number]);
-    let c = append(out, b, b"\t");
-    append_number(out, c, place.line as u64)
+    let mut word = io::buffer();
+    let name = arguments::get(rt, i, &mut word).unwrap_or(b"");
+    out.put_field(name);
 }
 
 // Puts a refusal: its number and its reason.
-fn append_refusal(out: &mut [u8], at: usize, number: u8) -> usize
-    ensures { AfterRefusal out.old at number result }
+#[tactic(auto, using(crate::proofs::PlaceLaws::refusal_put))]
+fn put_refusal(out: &mut Out, refusal: Refusal)
+    ensures { AfterRefusal out.old (number_of refusal) out.new }
 {
-    let a = append(out, at, b"refused ");
-    let b = append_number(out, a, number as u64);
-    let c = append(out, b, b": ");
-    messages::reason(number, out, c)
+    out.put(b"refused ");
+    out.put_number(u64::from(u8::from(refusal)));
+    out.put(b": ");
+    messages::put_reason(refusal, out);
 }
 
-// Puts the verdict and the entry that it is about. An entry above the path is a directory; the path is as the listing has it.
-fn append_decided(
-    rt: HostRuntime,
-    out: &mut [u8],
-    at: usize,
-    verdict: &[u8],
-    d: DecidedEntry,
-    line: &[u8],
-    numbers: &[usize],
-    names: &[usize],
-) -> usize
-    ensures { Onward out.old at result }
-{
-    let n = d.length;
-    let place = d.place;
-    let a = append(out, at, verdict);
-    let b = append(out, a, b"\t");
-    if n < line.len() {
-        let c = append_field(out, b, &line[..n + 1]);
-        return append_place(rt, out, c, place, numbers, names);
+impl<'a> Asked<'a> {
+    // Puts the rule file and the line, each after a tab.
+    fn put_place(&self, rt: HostRuntime, out: &mut Out, place: Place)
+        ensures { Onward out.old out.new }
+    {
+        let Some(&number) = self.numbers.get(place.file) else {
+            return;
+        };
+        let Some(&name) = self.names.get(number) else {
+            return;
+        };
+        out.put(b"\t");
+        put_name(rt, out, name);
+        out.put(b"\t");
+        out.put_number(place.line as u64);
     }
-    let c = append_field(out, b, line);
-    append_place(rt, out, c, place, numbers, names)
-}
 
-// Puts an answer of the ignore question. `line` is the path as the listing has it.
-pub fn append_ignore(
-    rt: HostRuntime,
-    out: &mut [u8],
-    at: usize,
-    answer: IgnoreAnswer,
-    line: &[u8],
-    numbers: &[usize],
-    names: &[usize],
-) -> usize
-    ensures { AfterIgnore out.old at answer result }
-{
-    match answer {
-        IgnoreAnswer::Undecided => append(out, at, b"nothing"),
-        IgnoreAnswer::Ignored(d) => append_decided(
-            rt, out, at, b"ignored", d, line, numbers, names,
-        ),
-        IgnoreAnswer::Reincluded(d) => append_decided(
-            rt,
-            out,
-            at,
-            b"re-included",
-            d,
-            line,
-            numbers,
-            names,
-        ),
-        IgnoreAnswer::Refused(n) => append_refusal(out, at, n),
+    // Puts the entry that an answer is about, after a tab, and the place of the line that decided.
+    fn put_entry(&self, rt: HostRuntime, out: &mut Out, entry: &[u8], place: Place)
+        ensures { Onward out.old out.new }
+    {
+        out.put(b"\t");
+        out.put_field(entry);
+        self.put_place(rt, out, place);
     }
-}
 
-// Puts a value, which lies in the rules.
-fn append_value(out: &mut [u8], at: usize, rules: &[u8], start: usize, length: usize) -> usize
-    ensures { Onward out.old at result }
-{
-    let a = append(out, at, b"value ");
-    if start > rules.len() {
-        return a;
+    // Puts the verdict and the entry that it is about. An entry above the path is a directory; the path is as the listing has it.
+    fn put_decided(&self, rt: HostRuntime, out: &mut Out, decided: DecidedEntry)
+        ensures { Onward out.old out.new }
+    {
+        let n = decided.length;
+        let entry = if n < self.line.len() {
+            &self.line[..n + 1]
+        } else {
+            self.line
+        };
+        match decided.decision.what {
+            Verdict::Ignored => out.put(b"ignored"),
+            Verdict::Reincluded => out.put(b"re-included"),
+        }
+        self.put_entry(rt, out, entry, decided.decision.place);
     }
-    if length > rules.len() - start {
-        return a;
+
+    // Puts an answer of the ignore question.
+    pub fn put_ignore(&self, rt: HostRuntime, out: &mut Out, answer: IgnoreAnswer)
+        ensures { AfterIgnore out.old answer out.new }
+    {
+        match answer {
+            Ok(None) => out.put(b"nothing"),
+            Ok(Some(decided)) => self.put_decided(rt, out, decided),
+            Err(refusal) => put_refusal(out, refusal),
+        }
     }
-    append_field(out, a, &rules[start..start + length])
-}
 
-// Puts a state, a value with its bytes.
-fn append_state(out: &mut [u8], at: usize, state: State, rules: &[u8]) -> usize
-    ensures { Onward out.old at result }
-{
-    match state {
-        State::Set => append(out, at, b"set"),
-        State::Unset => append(out, at, b"unset"),
-        State::Value(v) => append_value(out, at, rules, v.start, v.length),
-        State::Unspecified => append(out, at, b"unspecified"),
+    // Puts a state, a value with its bytes, which lie in the rules.
+    fn put_state(&self, out: &mut Out, state: State)
+        ensures { Onward out.old out.new }
+    {
+        match state {
+            State::Set => out.put(b"set"),
+            State::Unset => out.put(b"unset"),
+            State::Value(v) => {
+                out.put(b"value ");
+                if v.start <= self.rules.len() && v.length <= self.rules.len() - v.start {
+                    out.put_field(&self.rules[v.start..v.start + v.length]);
+                }
+            }
+            State::Unspecified => out.put(b"unspecified"),
+        }
     }
-}
 
-// Puts the state; the entry is the path itself.
-fn append_decided_state(
-    rt: HostRuntime,
-    out: &mut [u8],
-    at: usize,
-    s: DecidedState,
-    line: &[u8],
-    rules: &[u8],
-    numbers: &[usize],
-    names: &[usize],
-) -> usize
-    ensures { Onward out.old at result }
-{
-    let state = s.state;
-    let place = s.place;
-    let a = append_state(out, at, state, rules);
-    let b = append(out, a, b"\t");
-    let c = append_field(out, b, line);
-    append_place(rt, out, c, place, numbers, names)
-}
+    // Puts the state; the entry is the path itself.
+    fn put_decided_state(&self, rt: HostRuntime, out: &mut Out, decided: Decision<State>)
+        ensures { Onward out.old out.new }
+    {
+        self.put_state(out, decided.what);
+        self.put_entry(rt, out, self.line, decided.place);
+    }
 
-// Puts an answer of the attribute question.
-pub fn append_attribute(
-    rt: HostRuntime,
-    out: &mut [u8],
-    at: usize,
-    answer: AttributeAnswer,
-    line: &[u8],
-    rules: &[u8],
-    numbers: &[usize],
-    names: &[usize],
-) -> usize
-    ensures { AfterAttribute out.old at answer result }
-{
-    match answer {
-        AttributeAnswer::Undecided => append(out, at, b"nothing"),
-        AttributeAnswer::Decided(s) => append_decided_state(
-            rt, out, at, s, line, rules, numbers, names,
-        ),
-        AttributeAnswer::Refused(n) => append_refusal(out, at, n),
+    // Puts an answer of the attribute question.
+    pub fn put_attribute(&self, rt: HostRuntime, out: &mut Out, answer: AttributeAnswer)
+        ensures { AfterAttribute out.old answer out.new }
+    {
+        match answer {
+            Ok(None) => out.put(b"nothing"),
+            Ok(Some(decided)) => self.put_decided_state(rt, out, decided),
+            Err(refusal) => put_refusal(out, refusal),
+        }
     }
 }

@@ -3,7 +3,8 @@ use Prim.Native.Nat.{ℕ}
 use mathlib.Core.Path.{◌≡◌, refl, sym, ap, ◌∙◌}
 use mathlib.Core.Bool.{Bool, true, false, not, ◌&&◌, false≢true}
 use mathlib.Core.List.{List, [], ◌∷◌}
-use mathlib.Core.Option.{Option, none, some}
+use Rattle.std.proofs.lemmas.Bool.{and_parts}
+use Rattle.std.specs.Prelude.{Option, None, Some}
 use lib.Dec.{eqb}
 use borrow.Author.Tests.{eqb-true, not-true}
 use Rattle.bytestrings.specs.Text.{text}
@@ -16,21 +17,19 @@ use Rattle.brokenplaces.specs.BrokenPlaces.{broken_from, broken_at}
 use Rattle.patterns.specs.Sharing.{inside, accepts}
 use Rattle.patterns.specs.MatchTest.{tail_matches, matches_test}
 use Rattle.wildmatch.specs.Answers.{Due}
-use Rattle.bytestrings.proofs.BoolLaws.{and_split}
 use Rattle.patterns.proofs.Meaning.{test_decides}
 use Rattle.patterns.specs.declared.Mode.{Mode}
 use Rattle.wildmatch.specs.declared.Answer.{Answer}
-use Rattle.wildmatch.specs.declared.Answer.TheVariants.{Unmatched, Matched, Broken, Refused}
+use Rattle.wildmatch.specs.declared.Answer.TheVariants.{Unmatched, Matched, Broken}
 use Rattle.wildmatch.specs.Frames.{Frame, frame, frames, expected, AllHold}
 
 -- Whether an answer is due, computed from the place and the test.
 abbrev is_due : Answer → Option ℕ → Bool → Bool
-is_due Unmatched none b = not b
-is_due Unmatched (some n) b = false
+is_due Unmatched None b = not b
+is_due Unmatched (Some n) b = false
 is_due Matched o b = b
-is_due (Broken k) none b = false
-is_due (Broken k) (some n) b = eqb n k
-is_due (Refused k) o b = false
+is_due (Broken k) None b = false
+is_due (Broken k) (Some n) b = eqb n k
 
 -- The test of one frame in one mode, computed.
 abbrev agrees : Frame → Bool → Bool → Bool
@@ -46,23 +45,22 @@ unfolding Due
 due_by m p t a e = go a (broken_at p) refl e
   where
     go : (a : Answer) (o : Option ℕ) → broken_at p ≡ o → is_due a o (matches_test m p t) ≡ true → Due m p t a
-    go Unmatched none q e = (q, λ w. absurd (false≢true (sym (not-true _ e) ∙ (test_decides m p t).1 w)))
-    go Unmatched (some n) q e = absurd (false≢true e)
+    go Unmatched None q e = (q, λ w. absurd (false≢true (sym (not-true _ e) ∙ (test_decides m p t).1 w)))
+    go Unmatched (Some n) q e = absurd (false≢true e)
     go Matched o q e = (test_decides m p t).0 e
-    go (Broken k) none q e = absurd (false≢true e)
-    go (Broken k) (some n) q e = q ∙ ap some (eqb-true n k e)
-    go (Refused k) o q e = absurd (false≢true e)
+    go (Broken k) None q e = absurd (false≢true e)
+    go (Broken k) (Some n) q e = q ∙ ap Some (eqb-true n k e)
 
 holds_by : (f : Frame) (path fold : Bool) → (agrees f true true && (agrees f true false && (agrees f false true && agrees f false false))) ≡ true → agrees f path fold ≡ true
-holds_by f true true e = (and_split (agrees f true true) _ e).0
-holds_by f true false e = (and_split (agrees f true false) _ (and_split (agrees f true true) _ e).1).0
-holds_by f false true e = (and_split (agrees f false true) _ (and_split (agrees f true false) _ (and_split (agrees f true true) _ e).1).1).0
-holds_by f false false e = (and_split (agrees f false true) _ (and_split (agrees f true false) _ (and_split (agrees f true true) _ e).1).1).1
+holds_by f true true e = (and_parts (agrees f true true) _ e).0
+holds_by f true false e = (and_parts (agrees f true false) _ (and_parts (agrees f true true) _ e).1).0
+holds_by f false true e = (and_parts (agrees f false true) _ (and_parts (agrees f true false) _ (and_parts (agrees f true true) _ e).1).1).0
+holds_by f false false e = (and_parts (agrees f false true) _ (and_parts (agrees f true false) _ (and_parts (agrees f true true) _ e).1).1).1
 
 all_hold : (fs : List Frame) → all_agree fs ≡ true → AllHold fs
 all_hold [] e = tt
 all_hold (frame n t p a b c d ∷ fs) e =
-    let h = and_split _ (all_agree fs) e in (
+    let h = and_parts _ (all_agree fs) e in (
       λ m. due_by m (text p) (text t) (expected (frame n t p a b c d) m) (holds_by (frame n t p a b c d) m.path m.fold h.0),
       all_hold fs h.1,
     )

@@ -5,19 +5,18 @@
 ghost use Rattle.std.specs.Prelude.{◌≡◌};
 ghost use Rattle.wildmatch.specs.Answers.{mode_of, Answered, code_of};
 
-use brokenplaces::{Reading, broken_at};
+use brokenplaces::broken_at;
 use engine::matches;
 use patterns::Mode;
 use refusals::flags::{flag_one, flag_two, flags_high};
-use refusals::{holds_zero, too_long};
+use refusals::{Refusal, holds_zero, too_long};
 
-// What the matcher answers: a broken pattern with the place where its first broken item begins; a refusal carries its number and nothing else.
-#[derive(Clone, Copy)]
+// What the matcher answers: a broken pattern with the place where its first broken item begins.
+#[derive(Clone, Copy, Debug, PartialEq, Eq)]
 pub enum Answer {
     Unmatched,
     Matched,
     Broken(usize),
-    Refused(u8),
 }
 
 // The modes that a flags number asks for.
@@ -32,38 +31,39 @@ pub fn mode_of(flags: u64) -> Mode
 
 // Whether the pattern matches the text, or where it is broken; or the lowest refusal. A pattern that matches is not broken, so only one
 // that does not is read again.
-pub fn wildmatch(pattern: &[u8], text: &[u8], flags: u64) -> Answer
+pub fn wildmatch(pattern: &[u8], text: &[u8], flags: u64) -> Result<Answer, Refusal>
     ensures { Answered pattern.now text.now flags result }
 {
     if too_long(pattern, text) {
-        return Answer::Refused(7);
+        return Err(Refusal::TooLong);
     }
     if holds_zero(pattern) {
-        return Answer::Refused(8);
+        return Err(Refusal::HoldsZero);
     }
     if holds_zero(text) {
-        return Answer::Refused(8);
+        return Err(Refusal::HoldsZero);
     }
     if flags_high(flags) {
-        return Answer::Refused(9);
+        return Err(Refusal::FlagsHigh);
     }
     if matches(pattern, text, mode_of(flags)) {
-        return Answer::Matched;
+        return Ok(Answer::Matched);
     }
     match broken_at(pattern) {
-        Reading::Unbroken => Answer::Unmatched,
-        Reading::Broken(place) => Answer::Broken(place),
+        None => Ok(Answer::Unmatched),
+        Some(place) => Ok(Answer::Broken(place)),
     }
 }
 
 // The number that C gets for an answer: of a broken pattern without the place.
-pub fn code_of(answer: Answer) -> u32
+#[tactic(auto, unfolding(crate::specs::Answers::code_of))]
+pub fn code_of(answer: Result<Answer, Refusal>) -> u32
     ensures { result ≡ code_of answer }
 {
     match answer {
-        Answer::Unmatched => 0,
-        Answer::Matched => 1,
-        Answer::Broken(_) => 2,
-        Answer::Refused(n) => 16 + (n as u32),
+        Ok(Answer::Unmatched) => 0,
+        Ok(Answer::Matched) => 1,
+        Ok(Answer::Broken(_)) => 2,
+        Err(refusal) => 16 + u32::from(u8::from(refusal)),
     }
 }

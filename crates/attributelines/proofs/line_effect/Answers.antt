@@ -1,60 +1,32 @@
 -- `attributelines::line_effect` meets its contract: no token, a dropped pattern, one that does not match, or the mentions after it.
-use Prim.Native.Nat.{◌-◌}
-use native.Mathlib.Omega.{arith}
-use mathlib.Core.Path.{sym, ◌∙◌}
-use lib.ListN.{take, drop}
-use Rattle.bytestrings.proofs.UntilLaws.{until_within}
-use Rattle.attributelines.specs.AttributeLines.{is_blank, tokens, state_of}
-use Rattle.attributelines.proofs.TokenLaws.{tokens_end, tokens_next}
-use Rattle.attributelines.proofs.LineLaws.{line_empty, line_dropped, line_other, line-matched}
-use Rattle.entries.specs.Entries.{against}
+use Prim.Native.Nat.{◌+◌, ◌≤◌}
+use mathlib.Core.Path.{refl, sym, ◌∙◌}
+use borrow.Author.Rules.{rules}
+use lib.ListN.{length, drop}
+use Rattle.attributelines.specs.inner.Scan.{blank_length, IsNextToken}
+use Rattle.attributelines.proofs.TokenLaws.{tokens_end}
+use Rattle.attributelines.proofs.LineLaws.{cut, line_empty, line_dropped, line_other, line-matched}
 use Rattle.attributelines.proofs.line_effect.Goals as goal
+use Rattle.attributelines.proofs.line_effect.Goals.{then-pattern_dropped-via-then-pattern_dropped, then-pattern_dropped-via-else-pattern_dropped+then-not-pattern_matches}
 
-pub returns-then-text-start : goal.returns-then-text-start
-returns-then-text-start c =
-    let a = c.args in
-    let s = a.text.now in
-    line_empty (against a.rest.now a.component.now a.directory a.fold) a.attribute.now a.at (drop a.at s)
-    (tokens_end s a.at c.blanks_end-start.result c.blanks_end-start.ensures c.if-text-start.true)
-
-pub slice_bounds-pattern_dropped-end : goal.slice_bounds-pattern_dropped-end
-slice_bounds-pattern_dropped-end c =
-    let a = c.args in
-    let s = a.text.now in
-    (until_within is_blank s c.blanks_end-start.result c.token_end-end.result (omega (arith, c.if-text-start.false)) c.token_end-end.ensures).1
+pub returns-in_err-start : goal.returns-in_err-start
+returns-in_err-start c =
+    let s = c.args.text.now in
+    let none : length s ≤ c.args.at + blank_length (drop c.args.at s) = search rules in
+    rw c.from_residual.ensures (line_empty _ _ _ _ (tokens_end s c.args.at _ refl none))
 
 pub returns-then-pattern_dropped : goal.returns-then-pattern_dropped
 returns-then-pattern_dropped c =
-    let a = c.args in
-    let s = a.text.now in
-    line_dropped (against a.rest.now a.component.now a.directory a.fold) a.attribute.now a.at (drop a.at s)
-    (record { start = c.blanks_end-start.result; bytes = take (c.token_end-end.result - c.blanks_end-start.result) (drop c.blanks_end-start.result s) })
-    (tokens c.token_end-end.result (drop c.token_end-end.result s))
-    (tokens_next s a.at c.blanks_end-start.result c.token_end-end.result c.blanks_end-start.ensures c.if-text-start.false c.token_end-end.ensures)
-    (sym c.pattern_dropped.ensures ∙ c.if-pattern_dropped.true)
-
-pub slice_bounds-pattern_matches-end : goal.slice_bounds-pattern_matches-end
-slice_bounds-pattern_matches-end c =
-    let a = c.args in
-    let s = a.text.now in
-    (until_within is_blank s c.blanks_end-start.result c.token_end-end.result (omega (arith, c.if-text-start.false)) c.token_end-end.ensures).1
-
-pub returns-then-pattern_matches : goal.returns-then-pattern_matches
-returns-then-pattern_matches c =
-    let a = c.args in
-    let s = a.text.now in
-    line-matched (against a.rest.now a.component.now a.directory a.fold) a.attribute.now a.at (drop a.at s)
-    (record { start = c.blanks_end-start.result; bytes = take (c.token_end-end.result - c.blanks_end-start.result) (drop c.blanks_end-start.result s) })
-    (tokens c.token_end-end.result (drop c.token_end-end.result s)) (state_of c.mentions_effect.result)
-    (tokens_next s a.at c.blanks_end-start.result c.token_end-end.result c.blanks_end-start.ensures c.if-text-start.false c.token_end-end.ensures)
-    (sym c.pattern_dropped.ensures ∙ c.if-pattern_dropped.false) (sym c.pattern_matches.ensures ∙ c.if-pattern_matches.true) c.mentions_effect.ensures
+    let t : IsNextToken c.args.text.now c.args.at c.in_ok-start.start c.in_ok-start.end = search rules in
+    let tokens = cut c.args.attribute.now c.args.text.now c.args.at c.in_ok-start.start c.in_ok-start.end t in
+    elim c.then-pattern_dropped.branch [
+      | then-pattern_dropped-via-then-pattern_dropped w ↦ line_dropped _ _ _ _ _ _ tokens (sym c.pattern_dropped.ensures ∙ w.if-pattern_dropped.true)
+      | then-pattern_dropped-via-else-pattern_dropped+then-not-pattern_matches w ↦
+          line_other _ _ _ _ _ _ tokens (sym c.pattern_dropped.ensures ∙ w.if-pattern_dropped.false) (sym w.pattern_matches.ensures ∙ w.if-not-pattern_matches.true)
+    ]
 
 pub returns : goal.returns
 returns c =
-    let a = c.args in
-    let s = a.text.now in
-    line_other (against a.rest.now a.component.now a.directory a.fold) a.attribute.now a.at (drop a.at s)
-    (record { start = c.blanks_end-start.result; bytes = take (c.token_end-end.result - c.blanks_end-start.result) (drop c.blanks_end-start.result s) })
-    (tokens c.token_end-end.result (drop c.token_end-end.result s))
-    (tokens_next s a.at c.blanks_end-start.result c.token_end-end.result c.blanks_end-start.ensures c.if-text-start.false c.token_end-end.ensures)
-    (sym c.pattern_dropped.ensures ∙ c.if-pattern_dropped.false) (sym c.pattern_matches.ensures ∙ c.if-pattern_matches.false)
+    let t : IsNextToken c.args.text.now c.args.at c.in_ok-start.start c.in_ok-start.end = search rules in
+    line-matched _ _ _ _ _ _ _ (cut c.args.attribute.now c.args.text.now c.args.at c.in_ok-start.start c.in_ok-start.end t)
+    (sym c.pattern_dropped.ensures ∙ c.if-pattern_dropped.false) (sym c.pattern_matches.ensures ∙ c.if-not-pattern_matches.false) c.mentions_effect.ensures

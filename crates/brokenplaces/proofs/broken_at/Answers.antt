@@ -6,27 +6,23 @@ use Rattle.brokenplaces.proofs.broken_at.Goals as goal
 pub loop-i-init : goal.loop-i-init
 loop-i-init c = (search rules, left_all _)
 
-pub item_size-n-requires : goal.item_size-n-requires
-item_size-n-requires c =
-    may_break_from c.args.pattern.now _ c.loop-i-test.true _ c.may_break.ensures c.if-may_break.true
+pub item_size-requires : goal.item_size-requires
+item_size-requires c = may_break_from c.args.pattern.now _ c.loop-i-test.true _ c.may_break.ensures c.if-may_break.true
 
-pub returns-then-n-eq0 : goal.returns-then-n-eq0
-returns-then-n-eq0 c =
-    left_broken c.args.pattern.now _ c.loop-i-test.true c.loop-i.invariant.1 _ c.item_size-n.ensures c.if-n-eq0.true
+pub returns-in_default : goal.returns-in_default
+returns-in_default c = left_broken _ _ c.loop-i-test.true c.loop-i.invariant.1 _ c.item_size.ensures c.in_default.is
 
--- an escape or a class that can be read is passed
 pub overflow_add-i : goal.overflow_add-i
 overflow_add-i c =
-    let h = (left_item c.args.pattern.now c.loop-i.i c.loop-i-test.true c.loop-i.invariant.1 c.item_size-n.result c.item_size-n.ensures c.if-n-eq0.false).0 in
-    omega arith
+    let h = left_item _ _ c.loop-i-test.true c.loop-i.invariant.1 _ c.item_size.ensures _ c.in-Some.is in omega arith
 
 pub loop-i-smaller-then-may_break : goal.loop-i-smaller-then-may_break
 loop-i-smaller-then-may_break c =
-    let h = (left_item c.args.pattern.now c.loop-i.i c.loop-i-test.true c.loop-i.invariant.1 c.item_size-n.result c.item_size-n.ensures c.if-n-eq0.false).0 in
-    omega arith
+    let h = left_item _ _ c.loop-i-test.true c.loop-i.invariant.1 _ c.item_size.ensures _ c.in-Some.is in omega arith
 
 pub loop-i-preserved-then-may_break : goal.loop-i-preserved-then-may_break
-loop-i-preserved-then-may_break c = left_item _ _ c.loop-i-test.true c.loop-i.invariant.1 _ c.item_size-n.ensures c.if-n-eq0.false
+loop-i-preserved-then-may_break c =
+    let h = left_item _ _ c.loop-i-test.true c.loop-i.invariant.1 _ c.item_size.ensures _ c.in-Some.is in (h.1, h.2)
 
 pub loop-i-preserved : goal.loop-i-preserved
 loop-i-preserved c =

@@ -1,19 +1,18 @@
 -- How many bytes the code finds a class's members written with.
-use Rattle.std.specs.Prelude.{ℕ, ◌+◌, ◌≤◌, ◌≡◌, Bool, ◌&&◌, List, eqb, get_or, drop}
-use Rattle.std.proofs.Math.Option.{Option, none, some}
+use Rattle.std.specs.Prelude.{ℕ, ◌+◌, ◌≤◌, ◌≡◌, Bool, ◌&&◌, List, eqb, get_or, drop, Option, None, Some}
 use Rattle.bytestrings.specs.Text.{char}
 use Rattle.classes.specs.Members.{Step, close, broken, member, until_close, Members}
 
--- the code's answer r for what stands next, which is not the closing `]`: 0 where it is broken, else the bytes that the member is written with
-abbrev pub Sized : ℕ → Step → Type 0
+-- the code's answer r for what stands next, which is not the closing `]`: none where it is broken, else the bytes that the member is written with
+abbrev pub Sized : Option ℕ → Step → Type 0
 Sized r close = ⊥
-Sized r broken = r ≡ 0
-Sized r (member m n) = r ≡ n
+Sized r broken = r ≡ None
+Sized r (member m n) = r ≡ Some n
 
--- the bytes of all members, the closing `]` included; 0 where they cannot be read
-abbrev pub members_size : Option Members → ℕ
-members_size none = 0
-members_size (some r) = r.size
+-- the bytes of all members, the closing `]` included; none where they cannot be read
+abbrev pub members_size : Option Members → Option ℕ
+members_size None = None
+members_size (Some r) = Some r.size
 
 -- `[:` is next
 abbrev pub starts_name : List ℕ → Bool

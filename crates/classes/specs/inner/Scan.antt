@@ -1,12 +1,10 @@
 -- What the code knows and finds while it reads the members of a class.
-use Rattle.std.specs.Prelude.{ℕ, ◌+◌, ◌≤◌, ◌<◌, ◌≡◌, ◌||◌, List, drop}
-use Rattle.std.proofs.Math.Option.{Option, none, some}
+use Rattle.std.specs.Prelude.{ℕ, ◌+◌, ◌≤◌, ◌<◌, ◌≡◌, ◌||◌, List, drop, Option, None, Some}
 use Rattle.bytestrings.specs.Text.{char}
 use Rattle.classes.specs.Members.{byte, range, name, any_lists, Step, close, broken, member, name_at, Members}
 use Rattle.classes.specs.declared.members.Next.{Next}
 use Rattle.classes.specs.declared.members.Next.TheVariants.{Close, Broken, Byte, Range, Name, Plain}
 use Rattle.classes.specs.declared.class.Tested.{Tested}
-use Rattle.classes.specs.declared.class.Tested.TheVariants.{Bad, Read}
 
 -- what the code finds next in a class, as the definitions have it
 abbrev pub step_of : Next → Step
@@ -30,7 +28,7 @@ plain_places (Range a b n) = 0
 plain_places (Name k n) = 0
 plain_places (Plain n) = n + 1
 
--- what the code finds on the way: whether a member lists x or y
-unfoldable pub scanned : ℕ → ℕ → Option Members → Tested
-scanned x y none = Bad
-scanned x y (some r) = Read (any_lists r.list x || any_lists r.list y) r.size
+-- what the code finds on the way: whether a member lists x or y, with the members' size; none: broken
+unfoldable pub scanned : ℕ → ℕ → Option Members → Option Tested
+scanned x y None = None
+scanned x y (Some r) = Some (record { accepts = any_lists r.list x || any_lists r.list y; size = r.size })

@@ -1,24 +1,20 @@
-use native.Mathlib.Omega.{arith}
+-- `classnames::which_name` meets its contract: the last name, or one of the others, which have five letters.
+use mathlib.Core.Path.{◌≡◌, refl, ◌∙◌}
 use borrow.Author.Rules.{rules}
-use Rattle.classnames.proofs.PackLaws.{which_start, which_here, which_more, which_end}
+use Rattle.bytestrings.specs.Text.{text}
+use Rattle.bytestrings.specs.Bytes.{same_bytes}
+use Rattle.classnames.specs.Names.{table, names, which_name}
+use Rattle.classnames.proofs.NameLaws.{place_of_five, place_of_other}
 use Rattle.classnames.proofs.which_name.Goals as goal
 
-pub loop-k-init : goal.loop-k-init
-loop-k-init c = (search rules, which_start _)
+pub returns-then-eq : goal.returns-then-eq
+unfolding table names which_name same_bytes
+returns-then-eq c = let e : c.args.name.now ≡ text "xdigit" = search rules in rw e refl
 
-pub returns-then-number-packed_name : goal.returns-then-number-packed_name
-returns-then-number-packed_name c =
-    which_here _ _ _ _ c.loop-k.invariant.1 (λ i. (c.shared_slice_known-1.given i).fits) c.pack-number.ensures c.packed_name.ensures
-    (omega arith)
-    c.if-number-packed_name.true
+pub returns-in-Err : goal.returns-in-Err
+unfolding table names
+returns-in-Err c = place_of_other _ (search rules) c.in-Err.ensures.1
 
-pub loop-k-preserved : goal.loop-k-preserved
-loop-k-preserved c = (
-  omega arith,
-  which_more _ _ _ _ c.loop-k.invariant.1 (λ i. (c.shared_slice_known-1.given i).fits) c.pack-number.ensures c.packed_name.ensures
-      (omega arith)
-      c.if-number-packed_name.false,
-)
-
-pub returns : goal.returns
-returns c = which_end _ c.loop-k.k c.loop-k.invariant.1 (omega arith)
+pub returns-in-Ok : goal.returns-in-Ok
+unfolding table names
+returns-in-Ok c = c.place_in.ensures ∙ place_of_five _ _ c.in-Ok.ensures.1.same (search rules)

@@ -1,16 +1,13 @@
-use mathlib.Core.Path.{sym, ◌∙◌}
+-- `entries::has_slash` meets its contract: one of the bytes is a `/`.
+use mathlib.Core.Path.{refl}
 use borrow.Author.Rules.{rules}
+use lib.Dec.{eqb}
+use Rattle.std.proofs.Common.{tests}
+use Rattle.std.proofs.lemmas.List.Recursion.{or_is}
 use Rattle.bytestrings.specs.Text.{char}
-use Rattle.bytestrings.proofs.ByteLaws.{has_at, has_next, has_none}
+use Rattle.bytestrings.specs.Bytes.{has}
 use Rattle.entries.proofs.has_slash.Goals as goal
 
-pub returns-then-pattern-i-eq47 : goal.returns-then-pattern-i-eq47
-returns-then-pattern-i-eq47 c =
-    sym (has_at (char "/") c.args.pattern.now c.loop-i.i c.loop-i-test.true c.if-pattern-i-eq47.true)
-
-pub loop-i-preserved : goal.loop-i-preserved
-loop-i-preserved c =
-    (search rules, c.loop-i.invariant.1 ∙ has_next (char "/") c.args.pattern.now c.loop-i.i c.loop-i-test.true c.if-pattern-i-eq47.false)
-
 pub returns : goal.returns
-returns c = sym (c.loop-i.invariant.1 ∙ has_none (char "/") c.args.pattern.now c.loop-i.i c.loop-i-test.false)
+returns c =
+    or_is (has (char "/")) (λ x. eqb x (char "/")) refl (λ x xs. refl) c.args.pattern.now 0 c.any.result (search (tests, rules)) (search (tests, rules))

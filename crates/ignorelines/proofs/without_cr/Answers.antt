@@ -1,19 +1,13 @@
 -- `ignorelines::without_cr` meets its contract: the last byte is a CR, or not.
-use mathlib.Core.Path.{sym}
 use native.Mathlib.Omega.{arith}
-use lib.Seq.{length-take-le}
-use Rattle.ignorelines.proofs.LineLaws.{cr_empty, cr_dropped, cr_none}
+use Rattle.ignorelines.proofs.LineLaws.{cr_dropped, cr_none}
 use Rattle.ignorelines.proofs.without_cr.Goals as goal
 
-pub returns-then-n-eq0 : goal.returns-then-n-eq0
-returns-then-n-eq0 c = cr_empty _ c.if-n-eq0.true
+pub returns-in-13 : goal.returns-in-13
+returns-in-13 c = cr_dropped _ (omega arith) (omega arith)
 
-pub slice_bounds-result-length : goal.slice_bounds-result-length
-slice_bounds-result-length c = sym (length-take-le _ _ (omega arith))
+pub returns-in_default : goal.returns-in_default
+returns-in_default c = cr_none _ (λ l e. grind arith)
 
-pub returns-then-line-n-eq13 : goal.returns-then-line-n-eq13
-returns-then-line-n-eq13 c =
-    cr_dropped _ c.if-n-eq0.false c.if-line-n-eq13.true
-
-pub returns : goal.returns
-returns c = cr_none _ c.if-n-eq0.false c.if-line-n-eq13.false
+pub returns-in_default-2 : goal.returns-in_default-2
+returns-in_default-2 c = cr_none _ (λ l e. grind arith)

@@ -1,14 +1,15 @@
 -- How far the buffers are filled.
-use Rattle.std.specs.Prelude.{ℕ, ◌≤◌, List, length, take}
+use Rattle.std.specs.Prelude.{◌≤◌, length, take}
 use Rattle.lending.specs.declared.Lent.{Lent}
+use Rattle.lending.specs.declared.Buffers.{Buffers}
 use Rattle.lending.specs.Lending.{Lists}
 
 -- the buffers are at least as long as they are filled
-unfoldable pub Within : Lent → List ℕ → List ℕ → List ℕ → List ℕ → Type 0
-Within lent rules ends bases numbers =
-    (lent.bytes ≤ length rules) × ((lent.files ≤ length ends) × ((lent.files ≤ length bases) × (lent.files ≤ length numbers)))
+unfoldable pub Within : Lent → Buffers → Type 0
+Within lent b =
+    (lent.bytes ≤ length b.rules.now) × ((lent.files ≤ length b.ends.now) × ((lent.files ≤ length b.bases.now) × (lent.files ≤ length b.numbers.now)))
 
 -- the lists that the buffers are filled with
-unfoldable pub taken : Lent → List ℕ → List ℕ → List ℕ → List ℕ → Lists
-taken lent rules ends bases numbers =
-    record { rules = take lent.bytes rules; ends = take lent.files ends; bases = take lent.files bases; numbers = take lent.files numbers }
+unfoldable pub taken : Lent → Buffers → Lists
+taken lent b =
+    record { rules = take lent.bytes b.rules.now; ends = take lent.files b.ends.now; bases = take lent.files b.bases.now; numbers = take lent.files b.numbers.now }

@@ -1,18 +1,10 @@
--- `rulefiles::file_part` meets its contract: each return is the part, by where the start and the end lie.
-use mathlib.Core.Path.{refl}
-use Rattle.rulefiles.specs.RuleFiles.{bytes_between}
-use Rattle.rulefiles.proofs.PartLaws.{part_none, part_past, part_rest}
+-- `rulefiles::file_part` meets its contract: what of the file is in the buffer, or nothing.
+use Rattle.std.proofs.Common.{rules}
+use Rattle.rulefiles.proofs.PartLaws.{part_got, part_lost}
 use Rattle.rulefiles.proofs.file_part.Goals as goal
 
-pub returns-then-end-start : goal.returns-then-end-start
-returns-then-end-start c = part_none _ _ _ c.if-end-start.true
+pub returns-in-Some : goal.returns-in-Some
+returns-in-Some c = let m = c.min.ensures in let g = c.in-Some.ensures.lookup in search (rules, part_got)
 
-pub returns-then-end-rules : goal.returns-then-end-rules
-unfolding bytes_between
-returns-then-end-rules c = refl
-
-pub returns-then-start-rules : goal.returns-then-start-rules
-returns-then-start-rules c = part_rest _ _ _ c.if-end-rules.false
-
-pub returns : goal.returns
-returns c = part_past _ _ _ c.if-start-rules.false
+pub returns-in-None : goal.returns-in-None
+returns-in-None c = let m = c.min.ensures in let g = c.in-None.ensures.lookup in search (rules, part_lost)

@@ -27,13 +27,13 @@ pub returns-then-matches : goal.returns-then-matches
 returns-then-matches c =
     answers _ _ _ _ (gives_matched _ _ _ (search (rules, refuses_none, not_if_false)) _ _ c.mode_of.ensures c.matches.ensures c.if-matches.true)
 
-pub returns-in-Unbroken : goal.returns-in-Unbroken
-returns-in-Unbroken c =
+pub returns-in-None : goal.returns-in-None
+returns-in-None c =
     answers _ _ _ _
-    (gives_unmatched _ _ _ (search (rules, refuses_none, not_if_false)) _ _ _ c.mode_of.ensures
-    c.matches.ensures c.if-matches.false c.broken_at.ensures c.in-Unbroken.is)
+    (gives_unmatched _ _ _ (search (rules, refuses_none, not_if_false)) _ _ c.mode_of.ensures
+    c.matches.ensures c.if-matches.false c.in-None.ensures)
 
-pub returns-in-Broken : goal.returns-in-Broken
-returns-in-Broken c =
+pub returns-in-Some : goal.returns-in-Some
+returns-in-Some c =
     answers _ _ _ _
-    (gives_broken _ _ _ (search (rules, refuses_none, not_if_false)) _ _ c.broken_at.ensures c.in-Broken.is)
+    (gives_broken _ _ _ (search (rules, refuses_none, not_if_false)) _ c.in-Some.ensures)

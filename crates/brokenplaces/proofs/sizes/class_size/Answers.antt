@@ -1,33 +1,19 @@
 -- `brokenplaces::sizes::class_size` meets its contract: the sign, if there is one, and the members.
+use mathlib.Core.Path.{◌∙◌}
 use native.Mathlib.Omega.{arith}
 use borrow.Author.Rules.{rules}
-use Rattle.classes.specs.Members.{read_class}
-use Rattle.classes.proofs.ClassLaws.{start_sign, start_plain, start-within}
-use Rattle.brokenplaces.proofs.MeasureLaws.{Measured, class_measured}
+use Rattle.classes.proofs.ClassLaws.{start_sign, start_plain}
+use Rattle.brokenplaces.proofs.MeasureLaws.{class_measured}
 use Rattle.brokenplaces.proofs.sizes.class_size.Goals as goal
 
-pub slice_bounds-members_size-count : goal.slice_bounds-members_size-count
-slice_bounds-members_size-count c =
-    let h = start-within c.args.q.now c.if-is_negated.from (search (rules, start_sign, start_plain)) in omega arith
-
-pub slice_bounds-members_size-start : goal.slice_bounds-members_size-start
-slice_bounds-members_size-start c =
-    let h = start-within c.args.q.now c.if-is_negated.from (search (rules, start_sign, start_plain)) in omega arith
+pub returns-in_err-n : goal.returns-in_err-n
+returns-in_err-n c =
+    c.from_residual.ensures ∙ class_measured _ _ _ (search (rules, start_sign, start_plain)) c.in_err-n.ensures
 
 pub overflow_add-result : goal.overflow_add-result
 overflow_add-result c =
-    let measured : Measured c.args.q.now c.if-is_negated.from c.members_size-n.result (read_class c.args.q.now) =
-    class_measured _ _ _ (search (rules, start_sign, start_plain)) c.members_size-n.ensures in
-    let h = measured.0 in omega arith
+    let h = class_measured c.args.q.now c.if-is_negated.from _ (search (rules, start_sign, start_plain)) c.in_ok-n.ensures in omega arith
 
-pub returns-then-n-eq0 : goal.returns-then-n-eq0
-returns-then-n-eq0 c =
-    let measured : Measured c.args.q.now c.if-is_negated.from c.members_size-n.result (read_class c.args.q.now) =
-    class_measured _ _ _ (search (rules, start_sign, start_plain)) c.members_size-n.ensures in
-    let h = measured.1 c.if-n-eq0.true in omega arith
-
-pub returns-else-n-eq0 : goal.returns-else-n-eq0
-returns-else-n-eq0 c =
-    let measured : Measured c.args.q.now c.if-is_negated.from c.members_size-n.result (read_class c.args.q.now) =
-    class_measured _ _ _ (search (rules, start_sign, start_plain)) c.members_size-n.ensures in
-    let h = measured.2 c.if-n-eq0.false in omega arith
+pub returns : goal.returns
+returns c =
+    (class_measured _ _ _ (search (rules, start_sign, start_plain)) c.in_ok-n.ensures).1

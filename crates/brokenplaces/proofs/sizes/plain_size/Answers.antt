@@ -11,7 +11,7 @@ returns-then-q-ne92 c =
     plain-single _ _ c.requires.1 (omega arith) (omega arith) c.single_size.ensures
 
 pub returns-then-q-lt2 : goal.returns-then-q-lt2
-returns-then-q-lt2 c = subst (Sized _) (next_open _ _ (omega arith) (first_goes_on _ _ refl) (omega arith) (omega arith)) (omega arith)
+returns-then-q-lt2 c = subst (Sized _) (next_open _ _ (omega arith) (first_goes_on _ _ refl) (omega arith) (omega arith)) refl
 
 pub returns : goal.returns
 returns c = subst (Sized _) (next_escaped _ _ _ (first_goes_on _ _ refl) (omega arith) (omega arith) refl) (c.single_size-2.ensures _)

@@ -7,6 +7,6 @@ pub returns-then-here : goal.returns-then-here
 unfolding FirstPlace
 returns-then-here c = rw c.if-here.true (search rules)
 
-pub returns : goal.returns
+pub returns-else-here : goal.returns-else-here
 unfolding FirstPlace
-returns c = rw c.if-here.false c.after_slash.ensures
+returns-else-here c = rw c.if-here.false c.after_slash.ensures

@@ -1,40 +1,19 @@
--- `questionrefusals::lowest::attribute_refusal` meets its contract: the tests of the lent path and rules, then the name, then the flags.
-use Rattle.refusals.specs.inner.Checks.{done, check}
-use Rattle.questionrefusals.specs.inner.Checks.{lent_checks, LentFirstHolding}
-use Rattle.refusals.specs.Refusals.{FlagsHigh}
+use Rattle.std.proofs.Common.{rules}
+use Rattle.refusals.proofs.NumberLaws.{numbered}
 use Rattle.bytestrings.proofs.BoolLaws.{not_if_false}
-use Rattle.refusals.proofs.LowestLaws.{holding_first, holding_second}
-use Rattle.questionrefusals.proofs.QuestionLaws.{attribute_found}
-use mathlib.Core.Path.{refl}
-use mathlib.Core.Logic.{inl, inr}
-use Rattle.attributenames.specs.Names.{BadName}
+use Rattle.questionrefusals.proofs.QuestionLaws.{attribute_by_lent, attribute_after_lent}
 use Rattle.questionrefusals.proofs.lowest.attribute_refusal.Goals as goal
 
-pub returns-then-first-ne0 : goal.returns-then-first-ne0
-unfolding LentFirstHolding
-returns-then-first-ne0 c =
-    attribute_found _ _ _ _ _ _ _ (holding_first (lent_checks c.args.path.now c.args.rules.now c.args.ends.now c.args.bases.now)
-    (check 6 (BadName c.args.name.now) (check 9 (FlagsHigh c.args.flags) done)) _ c.lent_refusal-first.ensures c.if-first-ne0.true)
-
-pub returns-then-name_bad : goal.returns-then-name_bad
-unfolding LentFirstHolding
-returns-then-name_bad c =
-    attribute_found _ _ _ _ _ _ _ (holding_second (lent_checks c.args.path.now c.args.rules.now c.args.ends.now c.args.bases.now)
-    (check 6 (BadName c.args.name.now) (check 9 (FlagsHigh c.args.flags) done)) 0 _ 6
-    refl c.lent_refusal-first.ensures c.if-first-ne0.false (inl (refl, c.name_bad.ensures.0 c.if-name_bad.true)))
+pub returns-in_err-lent_refusal : goal.returns-in_err-lent_refusal
+returns-in_err-lent_refusal c = search (rules, attribute_by_lent, numbered)
 
 pub returns-then-flags_high : goal.returns-then-flags_high
-unfolding LentFirstHolding
-returns-then-flags_high c =
-    attribute_found _ _ _ _ _ _ _ (holding_second (lent_checks c.args.path.now c.args.rules.now c.args.ends.now c.args.bases.now)
-    (check 6 (BadName c.args.name.now) (check 9 (FlagsHigh c.args.flags) done)) 0 _ 9
-    refl c.lent_refusal-first.ensures c.if-first-ne0.false
-    (inr (not_if_false c.name_bad.ensures c.if-name_bad.false, inl (refl, c.flags_high.ensures.0 c.if-flags_high.true))))
+returns-then-flags_high c = search (rules, attribute_after_lent, not_if_false)
 
 pub returns : goal.returns
-unfolding LentFirstHolding
 returns c =
-    attribute_found _ _ _ _ _ _ _ (holding_second (lent_checks c.args.path.now c.args.rules.now c.args.ends.now c.args.bases.now)
-    (check 6 (BadName c.args.name.now) (check 9 (FlagsHigh c.args.flags) done)) 0 _ 0
-    refl c.lent_refusal-first.ensures c.if-first-ne0.false
-    (inr (not_if_false c.name_bad.ensures c.if-name_bad.false, inr (not_if_false c.flags_high.ensures c.if-flags_high.false, refl))))
+    let lent = c.in_ok-lent_refusal.ensures in
+    attribute_after_lent _ _ _ _ _ _ _ lent (search (rules, not_if_false))
+
+pub returns-then-name_bad : goal.returns-then-name_bad
+returns-then-name_bad c = search (rules, attribute_after_lent, not_if_false)

@@ -1,42 +1,40 @@
-use Rattle.questionrefusals.specs.inner.Scans.{LongIn}
-use Rattle.questionrefusals.proofs.LongLaws.{files_begin, files_past, files_bare, file_long, file_fine}
-use Rattle.bytestrings.proofs.BoolLaws.{yes_iff, no_iff, not_if_false}
-use mathlib.Core.Path.{subst, sym}
-use mathlib.Core.List.{List}
+use mathlib.Core.Path.{sym, subst}
+use mathlib.Core.Logic.{◌↔◌}
 use mathlib.Core.Logic.Iff
+use mathlib.Core.List.{List}
 use Prim.Native.Nat.{ℕ}
-use native.Mathlib.Omega.{arith}
+use Rattle.std.proofs.Common.{rules, drop}
+use Rattle.std.proofs.lemmas.List.{length_push}
+use Rattle.std.proofs.lemmas.Slice.Zip.{zip_turn, zip_end}
+use Rattle.bytestrings.proofs.BoolLaws.{yes_iff, no_iff, not_if_false}
+use Rattle.rulefiles.specs.RuleFiles.{files_from}
+use Rattle.questionrefusals.specs.Conditions.{LongLine}
+use Rattle.questionrefusals.specs.inner.Scans.{LongIn}
+use Rattle.questionrefusals.proofs.LongLaws.{LongFiles, files_begin, files_past, file_long, file_fine}
 use Rattle.questionrefusals.proofs.rules.line_long.Goals as goal
 
-pub loop-i-init : goal.loop-i-init
-loop-i-init c = files_begin _ _ _
-
-pub returns-then-bases-i : goal.returns-then-bases-i
-returns-then-bases-i c =
-    no_iff (λ b. files_bare c.args.rules.now c.args.ends.now c.args.bases.now c.loop-i.start c.loop-i.i c.loop-i-test.true
-    c.if-bases-i.true (c.loop-i.invariant.0 b))
-
-pub bounds-ends-i : goal.bounds-ends-i
-bounds-ends-i c = omega arith
+pub loop-end-init : goal.loop-end-init
+loop-end-init c = files_begin _ _ _
 
 pub returns-then-long_in : goal.returns-then-long_in
 returns-then-long_in c =
-    yes_iff (c.loop-i.invariant.1 (file_long c.args.rules.now c.args.ends.now c.args.bases.now c.loop-i.start c.loop-i.i
-    c.loop-i-test.true c.if-bases-i.false (subst (λ (d : List ℕ). LongIn d) c.file_part.ensures (c.long_in.ensures.0 c.if-long_in.true))))
+    let t = zip_turn c.args.files.now.ends.now c.args.files.now.bases.now c.loop-end.yielded c.into_iter-end-iterator.result c.loop-end.end-iterator
+    c.next.new.self c.next.result (search rules) (search rules) c.loop-end.yielded_by _ c.in-Some.is c.next.ensures.steps in
+    yes_iff (c.loop-end.invariant.1 (file_long _ _ _ _ _ c.in-Some.end.now t.0 t.1 (t.2 0)
+    (subst (λ (d : List ℕ). LongIn d) c.file_part.ensures (c.long_in.ensures.0 c.if-long_in.true))))
 
-pub overflow_add-i : goal.overflow_add-i
-overflow_add-i c = omega arith
-
-pub loop-i-smaller : goal.loop-i-smaller
-loop-i-smaller c = omega arith
-
-pub loop-i-preserved : goal.loop-i-preserved
-loop-i-preserved c =
-    Iff.trans c.loop-i.invariant (file_fine c.args.rules.now c.args.ends.now c.args.bases.now c.loop-i.start c.loop-i.i
-    c.loop-i-test.true c.if-bases-i.false
-    (λ h. not_if_false c.long_in.ensures c.if-long_in.false (subst (λ (d : List ℕ). LongIn d) (sym c.file_part.ensures) h)))
+pub loop-end-preserved : goal.loop-end-preserved
+loop-end-preserved c =
+    let a = c.args.files.now in
+    let t = zip_turn a.ends.now a.bases.now c.loop-end.yielded c.into_iter-end-iterator.result c.loop-end.end-iterator
+    c.next.new.self c.next.result (search rules) (search rules) c.loop-end.yielded_by _ c.in-Some.is c.next.ensures.steps in
+    subst (λ (n : ℕ). LongLine a.rules.now a.ends.now a.bases.now ↔ LongFiles (files_from n c.in-Some.end.now a.rules.now (drop n a.ends.now) (drop n a.bases.now)))
+    (sym (length_push c.loop-end.yielded _))
+    (Iff.trans c.loop-end.invariant (file_fine _ _ _ _ _ c.in-Some.end.now t.0 t.1 (t.2 0)
+    (λ h. not_if_false c.long_in.ensures c.if-long_in.false (subst (λ (d : List ℕ). LongIn d) (sym c.file_part.ensures) h))))
 
 pub returns : goal.returns
 returns c =
-    no_iff (λ b. files_past c.args.rules.now c.args.ends.now c.args.bases.now c.loop-i.start c.loop-i.i c.loop-i-test.false
-    (c.loop-i.invariant.0 b))
+    let t = zip_end c.args.files.now.ends.now c.args.files.now.bases.now c.loop-end.yielded c.into_iter-end-iterator.result c.loop-end.end-iterator
+    c.next.new.self c.next.result (search rules) (search rules) c.loop-end.yielded_by c.in-None.is c.next.ensures.steps in
+    no_iff (λ b. files_past _ _ _ _ _ t (c.loop-end.invariant.0 b))

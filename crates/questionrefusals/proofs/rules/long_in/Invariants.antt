@@ -1,12 +1,11 @@
--- `questionrefusals::rules::long_in` meets its contract. The lines from `at` on decide.
-use Rattle.questionrefusals.specs.inner.Scans.{LongIn}
+-- `questionrefusals::rules::long_in` meets its contract. The lines from here on decide.
 use mathlib.Core.Logic.{◌↔◌}
-use Prim.Native.Nat.{◌-◌, ◌≤◌}
-use lib.ListN.{length, drop}
+use Rattle.std.proofs.Common.{length}
+use Rattle.questionrefusals.specs.inner.Scans.{LongIn}
 use Rattle.questionrefusals.proofs.rules.long_in.Given as goal
 
-abbrev pub invariant-loop-at : goal.invariant-loop-at
-invariant-loop-at l = (l.at ≤ length l.file) × (LongIn l.file ↔ LongIn (drop l.at l.file))
+abbrev pub invariant-loop-rest : goal.invariant-loop-rest
+invariant-loop-rest l = LongIn l.file ↔ LongIn l.rest
 
-abbrev pub decreases-loop-at : goal.decreases-loop-at
-decreases-loop-at l = length l.file - l.at
+abbrev pub decreases-loop-rest : goal.decreases-loop-rest
+decreases-loop-rest l = length l.rest

@@ -1,13 +1,7 @@
--- No more files are lent than bytes of the field are passed, and the three lists keep their lengths.
-use lib.ListN.{length}
-use mathlib.Core.Path.{◌≡◌}
-use Prim.Native.Nat.{◌≤◌, ◌-◌, ◌+◌}
+-- Each file has an end and a base, and the last ends where the rules do.
+use Rattle.std.proofs.Common.{◌≡◌, vec_len}
+use Rattle.testtables.specs.Results.{last_end}
 use Rattle.testtables.proofs.lend.lend.Given as goal
 
-abbrev pub invariant-loop-i : goal.invariant-loop-i
-invariant-loop-i l =
-    (l.n ≤ l.i) × (l.n ≤ length l.ends) × (l.n ≤ length l.bases) × (l.i ≤ length l.files + 1)
-    × (length l.rules ≡ length l.initial.rules) × (length l.ends ≡ length l.initial.ends) × (length l.bases ≡ length l.initial.bases)
-
-abbrev pub decreases-loop-i : goal.decreases-loop-i
-decreases-loop-i l = length l.files + 1 - l.i
+abbrev pub invariant-loop-file : goal.invariant-loop-file
+invariant-loop-file l = (vec_len l.bases ≡ vec_len l.ends) × (vec_len l.rules ≡ last_end l.ends.items)

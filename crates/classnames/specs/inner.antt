@@ -1,2 +1,0 @@
--- Definitions that no public contract cites.
-pub mod PackedNames

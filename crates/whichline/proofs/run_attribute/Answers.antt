@@ -1,8 +1,0 @@
--- The part is as long as it says.
-use mathlib.Core.Path.{sym}
-use native.Mathlib.Omega.{arith}
-use lib.Seq.{length-take-le}
-use Rattle.whichline.proofs.run_attribute.Goals as goal
-
-pub slice_bounds-run-end : goal.slice_bounds-run-end
-slice_bounds-run-end c = sym (length-take-le _ _ (omega arith))
