@@ -4,7 +4,7 @@ use native.Mathlib.Omega.{arith}
 use mathlib.Core.Path.{◌≡◌, refl, sym, ap, subst, ◌∙◌}
 use mathlib.Core.Logic.{◌⊎◌, inl, inr, ⊎_elim, ◌↔◌}
 use Rattle.std.proofs.lemmas.Bool.{cases_lt}
-use Rattle.std.specs.Prelude.{Option, None, Some, Result, Ok, Err}
+use Rattle.std.specs.Prelude.{None, Some, Ok, Err}
 use mathlib.Core.List.{List, [], ◌∷◌, cons≢nil}
 use lib.ListN.{length, get_or}
 use Rattle.rulefiles.specs.declared.Place.{Place}
@@ -15,8 +15,6 @@ use Rattle.ignorelines.specs.declared.Verdict.TheVariants.{Ignored, Reincluded}
 use Rattle.attributelines.specs.declared.State.{State}
 use Rattle.attributelines.specs.declared.State.TheVariants.{Set, Unset, Value, Unspecified}
 use Rattle.answers.specs.Complete.{Complete, refusal, verdict_number, state_number, state_values, decided, stated, IgnoreAnswer, AttributeAnswer, complete_ignore, complete_attribute}
-use Rattle.answers.specs.declared.DecidedEntry.{DecidedEntry}
-use Rattle.rulefiles.specs.declared.Decision.{Decision}
 use Rattle.refusals.specs.declared.refusal.Refusal.{Refusal}
 use Rattle.refusals.specs.Numbers.{number_of}
 use Rattle.refusals.proofs.NumberLaws.{refusal_of, refusal_of_number}

@@ -1,15 +1,13 @@
 -- Each answer of the two questions is as specs/Answers.antt has it.
 use Prim.Native.Nat.{ℕ, ◌≤◌}
 use mathlib.Core.Path.{◌≡◌, refl, ap, subst, ◌∙◌}
-use Rattle.std.specs.Prelude.{Option, Err}
+use Rattle.std.specs.Prelude.{Err}
 use mathlib.Core.Logic.{◌↔◌}
 use mathlib.Core.Bool.{Bool}
 use mathlib.Core.List.{List}
 use Rattle.refusals.specs.Refusals.{Lowest, Accepted, LowestOrNone}
 use Rattle.questionrefusals.specs.Conditions.{IgnoreRefuses, AttributeRefuses}
 use Rattle.refusals.proofs.LowestLaws.{lowest_one, lowest_refuses}
-use Rattle.rulefiles.specs.declared.Decision.{Decision}
-use Rattle.attributelines.specs.declared.State.{State}
 use Rattle.rulefiles.specs.RuleFiles.{ordered_lines}
 use Rattle.refusals.specs.Flags.{flag_one, flag_two}
 use Rattle.verdicts.specs.Verdicts.{verdict, attribute_state, parents, top_down}
@@ -17,7 +15,7 @@ use Rattle.questions.specs.Answers.{path_entry, folds, ignore_answer, attribute_
 use Rattle.verdicts.specs.Verdicts.{state_answer}
 use Rattle.answers.specs.Complete.{Complete, refusal, complete_ignore, complete_attribute}
 use Rattle.refusals.specs.declared.refusal.Refusal.{Refusal}
-use Rattle.refusals.specs.Numbers.{number_of, found_number}
+use Rattle.refusals.specs.Numbers.{number_of}
 use Rattle.refusals.proofs.NumberLaws.{numbered}
 use Rattle.verdicts.proofs.VerdictLaws.{entry_of}
 use Rattle.answers.proofs.CompleteLaws.{refusal_one, small_not_refused}

@@ -1,5 +1,5 @@
 -- A field is decoded one byte after the other.
-use Rattle.std.proofs.Common.{ℕ, ◌+◌, Bool, true, false, cond, ◌≡◌, refl, ap, List, [], ◌∷◌, ◌++◌, Option, None, Some, eqb, length, ◌<◌, arith}
+use Rattle.std.proofs.Common.{ℕ, Bool, true, false, cond, ◌≡◌, refl, ap, List, [], ◌∷◌, ◌++◌, Option, None, Some, eqb, length, ◌<◌, arith}
 use Rattle.bytestrings.specs.Text.{char}
 use Rattle.testtables.specs.Fields.{hex_byte, first_byte, before, with_byte, decoded_behind}
 

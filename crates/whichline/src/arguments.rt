@@ -30,10 +30,7 @@ pub fn get<'a>(rt: HostRuntime, i: usize, word: &'a mut [u8]) -> Option<&'a [u8]
 // Whether argument `i` is these bytes. The arguments come from the outside, so no contract can say what this answers.
 pub fn is(rt: HostRuntime, i: usize, bytes: &[u8]) -> bool {
     let mut word = io::buffer();
-    match get(rt, i, &mut word) {
-        Some(argument) => argument == bytes,
-        None => false,
-    }
+    get(rt, i, &mut word).is_some_and(|argument| argument == bytes)
 }
 
 // Whether argument `i` is an option, which is no name, directory or file where one of these is wanted. This too is the outside's to say.

@@ -13,25 +13,23 @@ use std::str;
 // that this variable names.
 const LINKS: &str = "WHICHLINE_LINKS";
 
-// Puts the name of the link of argument `i`, and says whether one is lent.
-fn put_link(rt: HostRuntime, i: usize, out: &mut Out) -> bool {
+// Puts the name of the link of argument `i`: nothing where none is lent.
+fn put_link(rt: HostRuntime, i: usize, out: &mut Out) {
     let mut folder = io::buffer();
-    let Ok(n) = rt.var(LINKS, &mut folder) else {
-        return false;
-    };
-    out.put(&folder[..n]);
-    out.put(b"/");
-    out.put_number(i as u64);
-    true
+    if let Ok(n) = rt.var(LINKS, &mut folder) {
+        out.put(&folder[..n]);
+        out.put(b"/");
+        out.put_number(i as u64);
+    }
 }
 
 // Opens the file of argument `i` by its link.
 fn open_link(rt: HostRuntime, i: usize) -> Result<File, Error> {
     let mut path = io::buffer();
     let mut out = Out::new(&mut path);
-    let lent = put_link(rt, i, &mut out);
+    put_link(rt, i, &mut out);
     match str::from_utf8(out.filled()) {
-        Ok(link) if lent => File::open(&rt, link),
+        Ok(link) if !link.is_empty() => File::open(&rt, link),
         _ => Err(Error::new(
             ErrorKind::InvalidFilename,
             "a name that is not UTF-8 is opened by bin/whichline alone",
@@ -62,8 +60,8 @@ pub fn read_some<R: Read>(
     }
 }
 
-// (std reads to the end into a Vec alone, and this program has no heap, so the place is counted here.)
 // Reads a file until it ends or `part` is full, and answers how many bytes came. Where a read fails, that is said of the file's name.
+// (std reads to the end into a Vec alone, and this program has no heap, so the place is counted here.)
 fn read_all(rt: HostRuntime, file: &mut File, name: &[u8], part: &mut [u8]) -> Result<usize, Said>
     ensures { IfOk result (λ n. n ≤ length part.new) }
 {

@@ -103,8 +103,9 @@ impl<'a> Asked<'a> {
             State::Unset => out.put(b"unset"),
             State::Value(v) => {
                 out.put(b"value ");
-                if v.start <= self.rules.len() && v.length <= self.rules.len() - v.start {
-                    out.put_field(&self.rules[v.start..v.start + v.length]);
+                let behind = self.rules.get(v.start..);
+                if let Some(value) = behind.and_then(|bytes| bytes.get(..v.length)) {
+                    out.put_field(value);
                 }
             }
             State::Unspecified => out.put(b"unspecified"),
