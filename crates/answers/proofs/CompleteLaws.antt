@@ -4,7 +4,7 @@ use native.Mathlib.Omega.{arith}
 use mathlib.Core.Path.{◌≡◌, refl, sym, ap, subst, ◌∙◌}
 use mathlib.Core.Logic.{◌⊎◌, inl, inr, ⊎_elim, ◌↔◌}
 use Rattle.std.proofs.lemmas.Bool.{cases_lt}
-use Rattle.std.specs.Prelude.{None, Some, Ok, Err}
+use Rattle.std.specs.Prelude.{None, Some, Ok, Err, IfOk, IfErr}
 use mathlib.Core.List.{List, [], ◌∷◌, cons≢nil}
 use lib.ListN.{length, get_or}
 use Rattle.rulefiles.specs.declared.Place.{Place}
@@ -198,3 +198,16 @@ attribute_back (Err r) = attribute_far (16 + number_of r) (refusal (number_of r)
 
 pub attribute_once : (a b : AttributeAnswer) → complete_attribute a ≡ complete_attribute b → a ≡ b
 attribute_once a b e = sym (attribute_back a) ∙ ap (λ (c : Complete). attribute_from c.number c) e ∙ attribute_back b
+
+-- the number of a complete answer, whose refusal is told by its number
+pub ignore_number : (a : IgnoreAnswer) (code : ℕ) → IfOk a (λ decided. code ≡ (complete_ignore (Ok decided)).number)
+    → IfErr a (λ r. (number : ℕ) × (number ≡ number_of r) × (code ≡ (refusal number).number)) → code ≡ (complete_ignore a).number
+unfolding complete_ignore
+ignore_number (Ok decided) code ok refused = ok
+ignore_number (Err r) code ok refused = refused.2 ∙ ap (λ (n : ℕ). (refusal n).number) refused.1
+
+pub attribute_number : (a : AttributeAnswer) (code : ℕ) → IfOk a (λ decided. code ≡ (complete_attribute (Ok decided)).number)
+    → IfErr a (λ r. (number : ℕ) × (number ≡ number_of r) × (code ≡ (refusal number).number)) → code ≡ (complete_attribute a).number
+unfolding complete_attribute
+attribute_number (Ok decided) code ok refused = ok
+attribute_number (Err r) code ok refused = refused.2 ∙ ap (λ (n : ℕ). (refusal n).number) refused.1

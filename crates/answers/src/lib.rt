@@ -2,9 +2,8 @@
 // otherwise, answers in these. For a user: docs/RULES.md, "Answers".
 #![tactic(auto)]
 
-ghost use Rattle.std.specs.Prelude.{◌≡◌, ◌+◌};
-ghost use Rattle.refusals.specs.Numbers.{number_of};
-ghost use Rattle.answers.specs.Complete.{state_number, complete_ignore, complete_attribute};
+ghost use Rattle.std.specs.Prelude.{◌≡◌, ◌+◌, ℕ, Ok, IfOk, IfErr};
+ghost use Rattle.answers.specs.Complete.{state_number, refusal, complete_ignore, complete_attribute};
 
 use attributelines::State;
 use ignorelines::Verdict;
@@ -24,17 +23,18 @@ pub type IgnoreAnswer = Result<Option<DecidedEntry>, Refusal>;
 // What the attribute question answers.
 pub type AttributeAnswer = Result<Option<Decision<State>>, Refusal>;
 
-// The number that C gets for a refusal.
-fn refusal_code(refusal: Refusal) -> u32
-    ensures { result ≡ 16 + number_of refusal }
+// The number that C gets for a refusal, by its number in the table.
+fn refusal_code(number: u8) -> u32
+    ensures { result ≡ (refusal number).number }
 {
-    16 + u32::from(u8::from(refusal))
+    16 + u32::from(number)
 }
 
-// The number that C gets for an answer of the ignore question.
+// The number that C gets for an answer of the ignore question; a refusal is told by whatever has a number.
 #[tactic(auto, unfolding(crate::specs::Complete::complete_ignore))]
-pub fn ignore_code(answer: IgnoreAnswer) -> u32
-    ensures { result ≡ (complete_ignore answer).number }
+pub fn ignore_code<R: Into<u8>>(answer: Result<Option<DecidedEntry>, R>) -> u32
+    ensures decided { IfOk answer (λ decided. result ≡ (complete_ignore (Ok decided)).number) }
+    ensures refused { IfErr answer (λ refused. (number : ℕ) × R.converts refused number × (result ≡ (refusal number).number)) }
 {
     match answer {
         Ok(None) => 0,
@@ -42,7 +42,7 @@ pub fn ignore_code(answer: IgnoreAnswer) -> u32
             Verdict::Ignored => 1,
             Verdict::Reincluded => 2,
         },
-        Err(refusal) => refusal_code(refusal),
+        Err(refusal) => refusal_code(refusal.into()),
     }
 }
 
@@ -61,12 +61,13 @@ fn state_code(state: State) -> u32
 
 // The number that C gets for an answer of the attribute question. (The two have an arm in common, and that is `refusal_code`.)
 #[tactic(auto, unfolding(crate::specs::Complete::complete_attribute))]
-pub fn attribute_code(answer: AttributeAnswer) -> u32
-    ensures { result ≡ (complete_attribute answer).number }
+pub fn attribute_code<R: Into<u8>>(answer: Result<Option<Decision<State>>, R>) -> u32
+    ensures decided { IfOk answer (λ decided. result ≡ (complete_attribute (Ok decided)).number) }
+    ensures refused { IfErr answer (λ refused. (number : ℕ) × R.converts refused number × (result ≡ (refusal number).number)) }
 {
     match answer {
         Ok(None) => 0,
         Ok(Some(decision)) => state_code(decision.what),
-        Err(refused) => refusal_code(refused),
+        Err(refused) => refusal_code(refused.into()),
     }
 }

@@ -2,15 +2,35 @@
 // For a user: docs/RULES.md, "Bracket classes".
 #![tactic(auto)]
 
-ghost use Rattle.std.specs.Prelude.{◌≡◌};
+ghost use Rattle.std.specs.Prelude.{◌≡◌, false, eqb, MatchOption};
 ghost use Rattle.std.specs.List.{position};
-ghost use Rattle.std.specs.Str.{bytes_eq};
 ghost use Rattle.classnames.specs.Names.{named, which_name};
+ghost use Rattle.classnames.specs.inner.PackedNames.{packed, may_be_name};
 
-// The names but the last, "xdigit". Arrays of one length are compared faster than slices.
-static FIVE_LETTERS: [[u8; 5]; 11] = [
-    *b"alnum", *b"alpha", *b"blank", *b"cntrl", *b"digit", *b"graph", *b"lower", *b"print",
-    *b"punct", *b"space", *b"upper",
+// Letters as one number: the first lowest, and a 1 above the last. Numbers are compared faster than arrays and slices.
+macro_rules! letters {
+    () => {
+        1
+    };
+    ($first:expr $(, $more:expr)*) => {
+        letters!($($more),*) * 256 + $first as u64
+    };
+}
+
+// The names so.
+static NAMES: [u64; 12] = [
+    letters!(b'a', b'l', b'n', b'u', b'm'),
+    letters!(b'a', b'l', b'p', b'h', b'a'),
+    letters!(b'b', b'l', b'a', b'n', b'k'),
+    letters!(b'c', b'n', b't', b'r', b'l'),
+    letters!(b'd', b'i', b'g', b'i', b't'),
+    letters!(b'g', b'r', b'a', b'p', b'h'),
+    letters!(b'l', b'o', b'w', b'e', b'r'),
+    letters!(b'p', b'r', b'i', b'n', b't'),
+    letters!(b'p', b'u', b'n', b'c', b't'),
+    letters!(b's', b'p', b'a', b'c', b'e'),
+    letters!(b'u', b'p', b'p', b'e', b'r'),
+    letters!(b'x', b'd', b'i', b'g', b'i', b't'),
 ];
 
 // Bytes as one number, a bit for each: from `first` to `last` it is `ALL << first & ALL >> (127 - last)`.
@@ -67,22 +87,27 @@ pub fn name_has(k: usize, x: u8) -> bool
     }
 }
 
-// Which of some names it is.
-fn place_in(names: &[[u8; 5]], name: [u8; 5]) -> Option<usize>
-    ensures { result ≡ position (λ known. bytes_eq known name) names.now }
+// The letters of five or six bytes as such a number: no name has fewer or more.
+fn pack(name: &[u8]) -> Option<u64>
+    ensures { MatchOption result (may_be_name name.now ≡ false) (λ number. number ≡ packed name.now) }
 {
-    names.iter().position(|known| *known == name)
+    match *name {
+        [a, b, c, d, e] => Some(u64::from_le_bytes([a, b, c, d, e, 1, 0, 0])),
+        [a, b, c, d, e, f] => Some(u64::from_le_bytes([a, b, c, d, e, f, 1, 0])),
+        _ => None,
+    }
+}
+
+// Which of some numbers it is.
+fn place_in(numbers: &[u64], number: u64) -> Option<usize>
+    ensures { result ≡ position (λ known. eqb known number) numbers.now }
+{
+    numbers.iter().position(|known| *known == number)
 }
 
 // Which of the twelve names it is.
 pub fn which_name(name: &[u8]) -> Option<usize>
     ensures { result ≡ which_name name.now }
 {
-    if name == b"xdigit".as_slice() {
-        return Some(11);
-    }
-    match <[u8; 5]>::try_from(name) {
-        Ok(five) => place_in(&FIVE_LETTERS, five),
-        Err(_) => None,
-    }
+    place_in(&NAMES, pack(name)?)
 }

@@ -39,7 +39,7 @@ pub record Subject : Type 0 where
   pub directory : Bool
   pub fold : Bool
 
--- the four in this order, as the code passes them everywhere
+-- the four, in the order in which the code's struct has them
 abbrev pub against : List ℕ → List ℕ → Bool → Bool → Subject
 against rest component directory fold = record { rest = rest; component = component; directory = directory; fold = fold }
 

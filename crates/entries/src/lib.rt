@@ -40,13 +40,12 @@ fn without_first_slash(pattern: &[u8]) -> &[u8]
     }
 }
 
-// Whether a pattern whose last `/` has gone matches: one with a `/` the rest, in path mode; any other the component.
-fn bare_matches(pattern: &[u8], subject: &Subject) -> bool
+// Whether a pattern whose last `/` has gone matches: one with a `/` the rest, in path mode; any other the component. (Out of line: most lines match no
+// entry by their last byte, and pay nothing for what this saves and restores.)
+#[inline(never)]
+fn asked_matches(pattern: &[u8], subject: &Subject) -> bool
     ensures { result ≡ bare_matches (subject_in subject.now) pattern.now }
 {
-    if last_byte_excludes(pattern, subject) {
-        return false;
-    }
     let bare = without_first_slash(pattern);
     let anchored = has_slash(pattern);
     let text = if anchored {
@@ -59,6 +58,13 @@ fn bare_matches(pattern: &[u8], subject: &Subject) -> bool
         fold: subject.fold,
     };
     !bare.is_empty() && text_matches(bare, text, mode)
+}
+
+// The same; asked only if the last byte allows it.
+fn bare_matches(pattern: &[u8], subject: &Subject) -> bool
+    ensures { result ≡ bare_matches (subject_in subject.now) pattern.now }
+{
+    !last_byte_excludes(pattern, subject) && asked_matches(pattern, subject)
 }
 
 // Whether the pattern of a line matches the subject.

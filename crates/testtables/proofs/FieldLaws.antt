@@ -1,7 +1,9 @@
 -- A field is decoded one byte after the other.
-use Rattle.std.proofs.Common.{ℕ, Bool, true, false, cond, ◌≡◌, refl, ap, List, [], ◌∷◌, ◌++◌, Option, None, Some, eqb, length, ◌<◌, arith}
+use Rattle.std.proofs.Common.{ℕ, Bool, true, false, cond, ◌≡◌, refl, ap, ◌∙◌, List, [], ◌∷◌, ◌++◌, Option, None, Some, eqb, length, ◌<◌, arith}
 use Rattle.bytestrings.specs.Text.{char}
-use Rattle.testtables.specs.Fields.{hex_byte, first_byte, before, with_byte, decoded_behind}
+use lib.ListN.{length-append}
+use Rattle.std.proofs.lemmas.Bool.{lt-leb}
+use Rattle.testtables.specs.Fields.{hex_byte, first_byte, before, with_byte, decoded_behind, decoded, within, decoded_within}
 
 -- the fact about the byte at the front and what stands behind it
 abbrev Goes : List ℕ → List ℕ → ℕ → List ℕ → Type 0
@@ -72,3 +74,43 @@ one_more done field x rest e = (goes done field x rest e).0
 
 pub shorter : (field : List ℕ) (x : ℕ) (rest : List ℕ) → first_byte field ≡ Some (x, rest) → length rest < length field
 shorter field x rest e = (goes [] field x rest e).1
+
+-- a field that writes nothing
+pub within_none : (room : ℕ) (field : List ℕ) → decoded field ≡ None → decoded_within room field ≡ None
+unfolding decoded_within
+within_none room field e = ap (within room) e
+
+-- what has more bytes behind it than there is room for stays so
+over : (room : ℕ) (done : List ℕ) → room < length done → within room (Some done) ≡ None
+over room done h = ap (λ (t : Bool). cond t (Some done) None) (lt-leb (length done) room h)
+
+more : (room x : ℕ) (done : List ℕ) → room < length done → room < length (done ++ x ∷ [])
+more room x done h = rw (length-append done (x ∷ [])) (omega arith)
+
+too_long : (room : ℕ) (done field : List ℕ) → room < length done → within room (decoded_behind done field) ≡ None
+too_long room done [] h = over room done h
+too_long room done (b ∷ []) h = go (eqb b (char "%")) (over room (done ++ b ∷ []) (more room b done h))
+  where
+    go : (t : Bool) → within room (Some (done ++ b ∷ [])) ≡ None → within room (cond t None (Some (done ++ b ∷ []))) ≡ None
+    go true k = refl
+    go false k = k
+too_long room done (b ∷ c ∷ []) h = go (eqb b (char "%")) (too_long room (done ++ b ∷ []) (c ∷ []) (more room b done h))
+  where
+    go : (t : Bool) → within room (decoded_behind (done ++ b ∷ []) (c ∷ [])) ≡ None → within room (cond t None (decoded_behind (done ++ b ∷ []) (c ∷ []))) ≡ None
+    go true k = refl
+    go false k = k
+too_long room done (b ∷ c ∷ d ∷ s) h =
+    go (eqb b (char "%")) (hex_byte c d) (λ y. too_long room (done ++ y ∷ []) s (more room y done h)) (too_long room (done ++ b ∷ []) (c ∷ d ∷ s) (more room b done h))
+  where
+    go : (t : Bool) (v : Option ℕ) → ((y : ℕ) → within room (decoded_behind (done ++ y ∷ []) s) ≡ None)
+        → within room (decoded_behind (done ++ b ∷ []) (c ∷ d ∷ s)) ≡ None
+        → within room (cond t (with_byte v (λ y. decoded_behind (done ++ y ∷ []) s)) (decoded_behind (done ++ b ∷ []) (c ∷ d ∷ s))) ≡ None
+    go true None g k = refl
+    go true (Some y) g k = g y
+    go false v g k = k
+
+pub full : (room : ℕ) (field done rest : List ℕ) (x : ℕ) (behind : List ℕ) → decoded_behind [] field ≡ decoded_behind done rest
+    → first_byte rest ≡ Some (x, behind) → length done ≡ room → decoded_within room field ≡ None
+unfolding decoded_within decoded
+full room field done rest x behind e f l =
+    ap (within room) (e ∙ one_more done rest x behind f) ∙ too_long room (done ++ x ∷ []) behind (rw (length-append done (x ∷ [])) (omega arith))

@@ -1,5 +1,5 @@
 -- The bytes that a field of a row writes: each by itself, or by `%HH`, an escape with its two hexadecimal digits.
-use Rattle.std.specs.Prelude.{ℕ, ◌+◌, ◌-◌, ◌*◌, cond, ◌&&◌, Option, None, Some, List, [], ◌∷◌, ◌++◌, eqb, leb}
+use Rattle.std.specs.Prelude.{ℕ, ◌+◌, ◌-◌, ◌*◌, cond, ◌&&◌, Option, None, Some, List, [], ◌∷◌, ◌++◌, length, eqb, leb}
 use Rattle.bytestrings.specs.Text.{char}
 
 -- the value of a hexadecimal digit
@@ -45,3 +45,11 @@ decoded_behind done (b ∷ c ∷ d ∷ s) =
 -- the bytes that a field writes; none where an escape is broken or cut off
 unfoldable pub decoded : List ℕ → Option (List ℕ)
 decoded field = decoded_behind [] field
+
+-- the same where they are no more than there is room for; else none
+abbrev pub within : ℕ → Option (List ℕ) → Option (List ℕ)
+within room None = None
+within room (Some bytes) = cond (leb (length bytes) room) (Some bytes) None
+
+unfoldable pub decoded_within : ℕ → List ℕ → Option (List ℕ)
+decoded_within room field = within room (decoded field)

@@ -1,16 +1,20 @@
 // A row's fields, and the bytes that they write.
-ghost use Rattle.std.specs.Prelude.{◌≡◌, ◌<◌, ◌≤◌, length, IfSome, IfOk, MatchOption};
-ghost use Rattle.testtables.specs.Fields.{hex_value, hex_byte, first_byte, decoded};
+ghost use Rattle.std.specs.Prelude.{◌≡◌, ◌<◌, ◌≤◌, length, IfSome, IfOk, MatchOption, vec_len};
+ghost use Rattle.testtables.specs.Fields.{hex_value, hex_byte, first_byte, decoded, decoded_within};
 
 use crate::row::RowError;
 use std::alloc::Global;
 
-// The section of a row: what stands before the last dot of its first field.
-pub fn section(row: &str) -> &str
-    ensures { length result.now ≤ length row.now }
+// A field writes so many bytes at most, and the files that a row lends together.
+pub const MOST_BYTES: usize = 4096;
+
+// The section of the row that a text begins with: what stands before the last dot of its first field.
+pub fn section(text: &[u8]) -> &[u8]
+    ensures { length result.now ≤ length text.now }
 {
-    let label = row.split_once('\t').map_or(row, |(label, _)| label);
-    label.rsplit_once('.').map_or("", |(section, _)| section)
+    let tab = text.iter().position(|b| *b == b'\t').unwrap_or(text.len());
+    let dot = text[..tab].iter().rposition(|b| *b == b'.').unwrap_or(0);
+    &text[..dot]
 }
 
 // The value of a hexadecimal digit.
@@ -46,16 +50,20 @@ fn first_byte(field: &[u8]) -> Option<(u8, &[u8])>
     }
 }
 
-// The bytes that a field writes.
-#[tactic(auto, using(crate::proofs::FieldLaws::stopped, crate::proofs::FieldLaws::one_more, crate::proofs::FieldLaws::shorter), unfolding(crate::specs::Fields::decoded))]
-pub fn decode(alloc: Global, field: &str) -> Result<Vec<u8>, RowError>
+// The bytes that a field writes, if there is room for them.
+#[tactic(auto, using(crate::proofs::FieldLaws::stopped, crate::proofs::FieldLaws::one_more, crate::proofs::FieldLaws::shorter, crate::proofs::FieldLaws::within_none, crate::proofs::FieldLaws::full), unfolding(crate::specs::Fields::decoded))]
+pub fn decode(alloc: Global, field: &[u8], room: usize) -> Result<Vec<u8>, RowError>
     ensures ok { IfOk result (λ bytes. decoded field.now ≡ Some bytes.items) }
-    ensures malformed { result ≡ Err RowError.Malformed → decoded field.now ≡ None }
+    ensures fits { IfOk result (λ bytes. vec_len bytes ≤ room) }
+    ensures malformed { result ≡ Err RowError.Malformed → decoded_within room field.now ≡ None }
 {
     let mut bytes = Vec::new(alloc);
-    let mut rest = field.as_bytes();
+    let mut rest = field;
     while !rest.is_empty() {
         let (byte, behind) = first_byte(rest).ok_or(RowError::Malformed)?;
+        if bytes.len() == room {
+            return Err(RowError::Malformed);
+        }
         bytes.push(byte)?;
         rest = behind;
     }

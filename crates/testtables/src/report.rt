@@ -2,23 +2,41 @@
 use crate::row::RowError;
 use crate::tally::Tally;
 use std::io;
-use std::io::Error;
+use std::io::{Error, Write};
 
-// An answer other than the row expects. What is asked is the label, of the matcher with the mode.
-pub fn other_answer(rt: &impl Print, asked: &str, expected: &str, got: &str) {
-    let _ = println!(rt; "{asked}: expected {expected}, got {got}");
+// What a row says may be any bytes, so its fields are written as they are.
+fn say(rt: HostRuntime, parts: &[&[u8]]) {
+    for part in parts {
+        let _ = rt.write_all(part);
+    }
+}
+
+// An answer other than the row expects.
+pub fn other_answer(rt: HostRuntime, label: &[u8], expected: &[u8], got: &[u8]) {
+    say(
+        rt,
+        &[label, b": expected ", expected, b", got ", got, b"\n"],
+    );
+}
+
+// An answer of the matcher other than the row expects in a mode.
+pub fn other_mode(rt: HostRuntime, label: &[u8], mode: &str, expected: &[u8], got: &[u8]) {
+    say(rt, &[label, b" ", mode.as_bytes()]);
+    other_answer(rt, b"", expected, got);
 }
 
 // A row that was not run.
-pub fn not_run(rt: &impl Print, e: RowError, row: &str) {
-    let _ = println!(rt; "{e}: {row}");
+pub fn not_run(rt: HostRuntime, e: RowError, row: &[u8]) {
+    let _ = print!(rt; "{e}");
+    say(rt, &[b": ", row, b"\n"]);
 }
 
-pub fn section(rt: &impl Print, name: &str, passed: u64, rows: u64) {
-    let _ = println!(rt; "{name}: {passed}/{rows}");
+pub fn section(rt: HostRuntime, name: &[u8], passed: u64, rows: u64) {
+    say(rt, &[name]);
+    let _ = println!(rt; ": {passed}/{rows}");
 }
 
-pub fn too_long(rt: &impl Print, name: &str) {
+pub fn too_long(rt: HostRuntime, name: &str) {
     let _ = println!(rt; "too long: {name}");
 }
 
@@ -39,7 +57,7 @@ pub fn failed(rt: HostRuntime, name: &str, e: Error) {
     let _ = put_failed(rt, name, e);
 }
 
-pub fn totals(rt: &impl Print, t: &Tally) {
+pub fn totals(rt: HostRuntime, t: &Tally) {
     let _ = println!(rt;
         "{} malformed\n{} rows, {} answers, {} differ",
         t.malformed, t.rows, t.answers, t.differ

@@ -3,6 +3,7 @@ ghost use Rattle.std.specs.Prelude.{◌≤◌, ◌≡◌};
 ghost use Rattle.testtables.specs.Results.{Answers};
 ghost use Rattle.testtables.specs.declared.row.RowError.TheVariants.{OutOfMemory};
 
+use crate::fields::MOST_BYTES;
 use crate::{fields, report, written};
 use std::alloc::{AllocError, AllocFailed, Global};
 use std::fmt;
@@ -78,20 +79,20 @@ const MODES: [Mode; 4] = [
 // A row that asks the matcher. Where `lenient`, broken is read as no match.
 #[derive(Drop)]
 struct MatcherRow<'a> {
-    label: &'a str,
+    label: &'a [u8],
     pattern: Vec<u8>,
     text: Vec<u8>,
-    expected: &'a str,
+    expected: &'a [u8],
     lenient: bool,
 }
 
 // What is expected in the i-th mode: its digit, or the words for a broken pattern, which hold in all modes.
-fn expected_in(expected: &str, i: usize) -> &str {
+fn expected_in(expected: &[u8], i: usize) -> &[u8] {
     if expected.len() > 4 {
         return expected;
     }
-    let digits = expected.get(i..).unwrap_or("");
-    digits.get(..1).unwrap_or("")
+    let digits = expected.get(i..).unwrap_or(b"");
+    digits.get(..1).unwrap_or(b"")
 }
 
 impl MatcherRow<'_> {
@@ -107,21 +108,20 @@ impl MatcherRow<'_> {
     // Whether the answer in the i-th mode is another than expected; says so if it is.
     fn differs(
         &self,
-        rt: &impl Print,
+        rt: HostRuntime,
         alloc: Global,
         i: usize,
         mode: Mode,
     ) -> Result<bool, AllocError> {
         let got = self.answer(alloc, mode.flags)?;
-        let same = got.as_str() == expected_in(self.expected, i);
+        let same = got.as_bytes() == expected_in(self.expected, i);
         if !same {
-            let asked = format!(in alloc; "{} {}", self.label, mode.name)?;
-            report::other_answer(rt, asked.as_str(), self.expected, got.as_str());
+            report::other_mode(rt, self.label, mode.name, self.expected, got.as_bytes());
         }
         Ok(!same)
     }
 
-    fn run(&self, rt: &impl Print, alloc: Global) -> Result<Ran, RowError>
+    fn run(&self, rt: HostRuntime, alloc: Global) -> Result<Ran, RowError>
         ensures { Answers 4 result }
     {
         let mut differ = 0;
@@ -135,18 +135,18 @@ impl MatcherRow<'_> {
 }
 
 // Whether a field has the form of expected answers: a digit for each mode, or the words for a broken pattern, which hold in all modes.
-fn is_expectation(field: &str) -> bool {
-    match field.strip_prefix("broken ") {
+fn is_expectation(field: &[u8]) -> bool {
+    match field.strip_prefix(b"broken ") {
         Some(place) => !place.is_empty(),
-        None => field.len() == 4 && field.bytes().all(|b| b == b'0' || b == b'1'),
+        None => field.len() == 4 && field.iter().all(|b| *b == b'0' || *b == b'1'),
     }
 }
 
 // Runs a row of four fields: its label, its pattern, its text, and the answers expected. Where `lenient`, it reads broken as no match.
-pub fn run(rt: &impl Print, alloc: Global, row: &str, lenient: bool) -> Result<Ran, RowError>
+pub fn run(rt: HostRuntime, alloc: Global, row: &[u8], lenient: bool) -> Result<Ran, RowError>
     ensures { Answers 4 result }
 {
-    let fields: Vec<&str> = row.splitn(4, '\t').collect(alloc)?;
+    let fields: Vec<&[u8]> = row.splitn(4, |b| *b == b'\t').collect(alloc)?;
     let &[label, pattern, text, expected] = fields.as_slice() else {
         return Err(RowError::Malformed);
     };
@@ -155,8 +155,8 @@ pub fn run(rt: &impl Print, alloc: Global, row: &str, lenient: bool) -> Result<R
     }
     let row = MatcherRow {
         label,
-        pattern: fields::decode(alloc, pattern)?,
-        text: fields::decode(alloc, text)?,
+        pattern: fields::decode(alloc, pattern, MOST_BYTES)?,
+        text: fields::decode(alloc, text, MOST_BYTES)?,
         expected,
         lenient,
     };

@@ -17,8 +17,8 @@ pub struct Tally {
 }
 
 // Whether a line is a row: neither empty nor a comment, and no file that rows lend.
-fn is_row(line: &str) -> bool {
-    !matches!(line.as_bytes(), [] | [b'#' | b'=', ..])
+fn is_row(line: &[u8]) -> bool {
+    !matches!(line, [] | [b'#' | b'=', ..])
 }
 
 // The sums stop at the largest number. The rows of a few files come nowhere near it.
@@ -48,7 +48,7 @@ impl Tally {
     }
 
     // Counts a row by what it came to.
-    fn count(&mut self, rt: &impl Print, row: &str, outcome: Result<Ran, RowError>)
+    fn count(&mut self, rt: HostRuntime, row: &[u8], outcome: Result<Ran, RowError>)
         ensures { Grown self.old self.new }
     {
         self.rows = self.rows.saturating_add(1);
@@ -63,7 +63,7 @@ impl Tally {
     }
 
     // Writes the line of a section, if any row of it was counted, and starts another.
-    fn end_section(&mut self, rt: &impl Print, name: &str)
+    fn end_section(&mut self, rt: HostRuntime, name: &[u8])
         ensures { Grown self.old self.new }
     {
         if self.section_rows > 0 {
@@ -73,28 +73,41 @@ impl Tally {
         self.section_passed = 0;
     }
 
+    // Ends the last section where that of a row is another.
+    fn begin(&mut self, rt: HostRuntime, last: &[u8], own: &[u8])
+        ensures { Grown self.old self.new }
+    {
+        if last != own {
+            self.end_section(rt, last);
+        }
+    }
+
     // Runs the rows of a file, one a line, each by `run`, which gets the whole file too.
-    pub fn run_rows<F: Fn(&str, &str) -> Result<Ran, RowError>>(
+    pub fn run_rows<F: Fn(&[u8], &[u8]) -> Result<Ran, RowError>>(
         &mut self,
-        rt: &impl Print,
-        sheet: &str,
+        rt: HostRuntime,
+        sheet: &[u8],
         run: F,
     )
         requires { F.IsAlwaysCallable run }
         ensures { Grown self.old self.new }
     {
-        let mut section = "";
-        for row in sheet.split('\n') {
-            if !is_row(row) {
-                continue;
+        let mut last = sheet;
+        let mut rest = sheet;
+        while !rest.is_empty() {
+            let end = rest.iter().position(|b| *b == b'\n').unwrap_or(rest.len());
+            let row = &rest[..end];
+            if is_row(row) {
+                self.begin(
+                    rt,
+                    fields::section(&last[..last.len() - rest.len()]),
+                    fields::section(row),
+                );
+                self.count(rt, row, run(sheet, row));
+                last = rest;
             }
-            let own = fields::section(row);
-            if own != section {
-                self.end_section(rt, section);
-                section = own;
-            }
-            self.count(rt, row, run(sheet, row));
+            rest = rest.get(end + 1..).unwrap_or(b"");
         }
-        self.end_section(rt, section);
+        self.end_section(rt, fields::section(last));
     }
 }

@@ -46,25 +46,26 @@ fn stated(alloc: Global, state: &str, place: Place) -> Result<String, AllocError
 }
 
 // The bytes that a value has in the rules.
-fn value(rules: &[u8], start: usize, length: usize) -> &str {
+fn value(rules: &[u8], start: usize, length: usize) -> &[u8] {
     let bytes = rules.get(start..).and_then(|rest| rest.get(..length));
-    bytes
-        .and_then(|bytes| str::from_utf8(bytes).ok())
-        .unwrap_or("outside the rules, or no text")
+    bytes.unwrap_or(b"outside the rules")
 }
 
 // A state: as a word, a value with where it starts in the rules, and its bytes.
-fn decided_state(alloc: Global, s: Decision<State>, rules: &[u8]) -> Result<String, AllocError> {
-    match s.what {
-        State::Set => stated(alloc, "set", s.place),
-        State::Unset => stated(alloc, "unset", s.place),
+fn decided_state(alloc: Global, s: Decision<State>, rules: &[u8]) -> Result<Vec<u8>, AllocError> {
+    let said = match s.what {
+        State::Set => stated(alloc, "set", s.place)?,
+        State::Unset => stated(alloc, "unset", s.place)?,
         State::Value(v) => {
             let mut out = stated(alloc, "value", s.place)?;
-            write!(out, " {} {}", v.start, value(rules, v.start, v.length))?;
-            Ok(out)
+            write!(out, " {} ", v.start)?;
+            let mut bytes = out.into_bytes();
+            bytes.extend_from_slice(value(rules, v.start, v.length))?;
+            return Ok(bytes);
         }
-        State::Unspecified => stated(alloc, "unspecified", s.place),
-    }
+        State::Unspecified => stated(alloc, "unspecified", s.place)?,
+    };
+    Ok(said.into_bytes())
 }
 
 // An answer of the attribute question.
@@ -72,10 +73,11 @@ pub fn attribute(
     alloc: Global,
     answer: AttributeAnswer,
     rules: &[u8],
-) -> Result<String, AllocError> {
-    match answer {
-        Ok(None) => String::from_str(alloc, "nothing"),
-        Ok(Some(decision)) => decided_state(alloc, decision, rules),
-        Err(refusal) => refused(alloc, refusal),
-    }
+) -> Result<Vec<u8>, AllocError> {
+    let said = match answer {
+        Ok(None) => String::from_str(alloc, "nothing")?,
+        Ok(Some(decision)) => return decided_state(alloc, decision, rules),
+        Err(refusal) => refused(alloc, refusal)?,
+    };
+    Ok(said.into_bytes())
 }

@@ -1,12 +1,12 @@
 -- The files read one after another: the decision of one file, and then of the files after it.
-use Prim.Native.Nat.{ℕ, suc, ◌+◌}
+use Prim.Native.Nat.{ℕ, suc, ◌+◌, ◌≤◌}
 use native.Mathlib.Omega.{arith}
 use native.Mathlib.Numerals.{add-one}
 use mathlib.Core.Path.{◌≡◌, refl, sym, ap, ◌∙◌}
 use mathlib.Core.List.{List, [], ◌∷◌}
 use mathlib.Core.Logic.{◌⊎◌, inl, inr}
 use Rattle.std.specs.Prelude.{Option, None, Some}
-use lib.ListN.{length, take, drop}
+use lib.ListN.{length, take, drop, drop_of_length-le}
 use lib.Seq.{drop-drop}
 use Rattle.rulefiles.specs.RuleFiles.{File, Line, bytes_between, split, bom_length, files_from, lines_from, lines_of, lines_of_all}
 use Rattle.rulefiles.specs.declared.Decision.{Decision}
@@ -54,6 +54,13 @@ module _ {A : Type 0} (effect : Line → Option A) where
   pub file_none : (f : File) → ((n k : ℕ) (b : List ℕ) → effect (record { file = f.number; number = n; base = f.base; start = k; bytes = b }) ≡ None) → last_decision effect (lines_of f) ≡ None
   unfolding lines_of
   file_none f h = lines_none f.number f.base 1 (f.start + bom_length f.bytes) (split (drop (bom_length f.bytes) f.bytes)) h
+
+  -- a file with no bytes has no lines
+  pub file_empty : (rules : List ℕ) (k start end base : ℕ) → length (take end rules) ≤ start → last_decision effect (lines_of (file_at rules k start end base)) ≡ None
+  unfolding lines_of bom_length split
+  file_empty rules k start end base h =
+      let q : bytes_between start end rules ≡ [] = part_upto start end rules ∙ drop_of_length-le (take end rules) {i = start} (omega arith) in
+      ap (λ (b : List ℕ). last_decision effect (lines_from k base 1 (start + bom_length b) (split (drop (bom_length b) b)))) q
 
   -- one turn: the decision before, overridden by the file's, and then by the files after it
   pub file_turn : (rules ends bases : List ℕ) (k start end base : ℕ) (before after : Option (Decision A))

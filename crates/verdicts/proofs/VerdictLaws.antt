@@ -4,7 +4,8 @@ use mathlib.Core.Path.{◌≡◌, refl, sym, ap, ◌∙◌}
 use mathlib.Core.Bool.{Bool, true, false, cond}
 use mathlib.Core.List.{List}
 use Rattle.std.specs.Prelude.{Option, None, Some, option_and_then}
-use lib.ListN.{take, drop}
+use lib.Dec.{ltb}
+use lib.ListN.{length, take, drop}
 use Rattle.bytestrings.proofs.SliceLaws.{from, from-drop}
 use Rattle.rulefiles.specs.RuleFiles.{Line, lines_of, lines_of_all, files_from, files, ordered_lines}
 use Rattle.rulefiles.specs.Decisions.{override, last_decision}
@@ -27,6 +28,19 @@ pub subject_from : (base at : ℕ) (bytes : List ℕ) (directory fold : Bool) �
 unfolding subject_of
 subject_from base at bytes directory fold e =
     rw (from-drop base bytes) (ap (λ (s : Subject). record s { rest = drop base bytes }) (sym (subject-whole fold directory bytes at e)))
+
+-- what a file's lines are matched against differs from the whole entry in its rest alone
+pub with_rest : (base : ℕ) (w s : Subject) → Some s ≡ in_file base w → Some (against s.rest w.component w.directory w.fold) ≡ in_file base w
+unfolding in_file
+with_rest base w s q = ap rest_of q ∙ go (ltb base (length w.rest))
+  where
+    rest_of : Option Subject → Option Subject
+    rest_of None = None
+    rest_of (Some t) = Some (against t.rest w.component w.directory w.fold)
+
+    go : (b : Bool) → rest_of (cond b (Some (against (drop base w.rest) w.component w.directory w.fold)) None) ≡ cond b (Some (against (drop base w.rest) w.component w.directory w.fold)) None
+    go true = refl
+    go false = refl
 
 -- what the lines decide of an entry, by what a line says of the subject: by its start and its bytes
 module _ {A : Type 0} (says : Subject → ℕ → List ℕ → Option A) (fold : Bool) (e : Entry) where

@@ -1,9 +1,11 @@
 -- A listing that is read piece by piece: what the bytes that are read and not yet answered come to.
-use Rattle.std.specs.Prelude.{ℕ, ◌+◌, ◌-◌, true, false, cond, ◌&&◌, ◌||◌, List, eqb, ltb, leb, length, take, drop}
+use Rattle.std.specs.Prelude.{ℕ, ◌+◌, ◌-◌, ◌≡◌, Bool, true, false, cond, ◌&&◌, ◌||◌, List, eqb, ltb, leb, length, take, drop}
 use Rattle.bytestrings.specs.Text.{newline}
 use Rattle.bytestrings.specs.Bytes.{length_until}
 use Rattle.whichline.specs.declared.listing.Unread.{Unread}
 use Rattle.whichline.specs.declared.listing.Found.{Found}
+use Rattle.whichline.specs.declared.listing.Line.{Line}
+use Rattle.whichline.specs.declared.listing.Entry.{Entry}
 use Rattle.whichline.specs.declared.listing.Found.TheVariants.{Next, Over, More, Again}
 
 -- nothing is read yet
@@ -54,3 +56,11 @@ unfoldable pub looked : List ℕ → Unread → Found
 looked buffer u =
     let end = line_end buffer u.start u.have in
     cond (ltb end u.have) (ended u end) (unended u)
+
+-- a line lies in a buffer
+abbrev pub holds_line : List ℕ → Line → Bool
+holds_line buffer line = leb line.start line.end && leb line.end (length buffer)
+
+-- the entry that a line of a buffer is
+abbrev pub EntryOf : List ℕ → Line → Entry → Type 0
+EntryOf buffer line entry = (entry.line.now ≡ slice line.start line.end buffer) × (entry.cut ≡ line.cut)

@@ -6,6 +6,7 @@ use Rattle.io.specs.Digits.{IsDigitCount}
 use Rattle.refusals.specs.Numbers.{number_of}
 use Rattle.answers.specs.Complete.{IgnoreAnswer, AttributeAnswer}
 use Rattle.whichline.specs.Filled.{Filled}
+use Rattle.whichline.specs.declared.listing.Entry.{Entry}
 
 -- n bytes more are put: after them, or where it was if they do not fit
 unfoldable pub after : Filled → ℕ → Filled
@@ -61,6 +62,10 @@ plain s = not (first_is (char "\"") s) && is_text s
 -- a field is put: as it is, or between quotes
 unfoldable pub after_field : Filled → List ℕ → Filled
 after_field out s = cond (plain s) (after out (length s)) (after (after_bytes (after out 1) s) 1)
+
+-- a path is put as the listing has it: of a line that is too long, its front and three dots
+abbrev pub after_entry : Filled → Entry → Filled
+after_entry out entry = cond entry.cut (after (after_field out entry.line.now) 3) (after_field out entry.line.now)
 
 -- how many bytes the words of a refusal have
 unfoldable pub reason_length : ℕ → ℕ

@@ -1,4 +1,7 @@
 // The program's arguments.
+ghost use Rattle.std.specs.Prelude.{◌≤◌, length, IfSome, IfOk};
+ghost use Rattle.whichline.specs.Bounds.{Named};
+
 use crate::messages;
 use crate::messages::Said;
 use std::env::{Env, FillError};
@@ -22,7 +25,9 @@ pub fn count(rt: HostRuntime) -> usize {
 }
 
 // Argument `i`, for which there is room in `word`, or none where there is no such argument or no room for it.
-pub fn get<'a>(rt: HostRuntime, i: usize, word: &'a mut [u8]) -> Option<&'a [u8]> {
+pub fn get<'a>(rt: HostRuntime, i: usize, word: &'a mut [u8]) -> Option<&'a [u8]>
+    ensures { IfSome result (λ argument. length argument.now ≤ length word.old) }
+{
     let n = rt.arg(i, word).ok()?;
     Some(&word[..n])
 }
@@ -47,7 +52,9 @@ fn not_asked(rt: HostRuntime) -> Said {
 }
 
 // What is asked; there is room in `name` for an attribute's name. Of one that is too long for that the front will do: it is refused.
-pub fn what_is_asked<'a>(rt: HostRuntime, name: &'a mut [u8]) -> Result<Question<'a>, Said> {
+pub fn what_is_asked<'a>(rt: HostRuntime, name: &'a mut [u8]) -> Result<Question<'a>, Said>
+    ensures { IfOk result (λ question. Named question name.old) }
+{
     if is(rt, 1, b"ignore") {
         return Ok(Question::Ignore);
     }

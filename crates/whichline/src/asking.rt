@@ -114,9 +114,11 @@ impl<'a> Asking<'a> {
             match unread.look(input) {
                 Found::Over => return write_out(rt, out),
                 Found::Again(rest) => unread = rest,
+                // Where the answers cannot be written, it is read once more all the same: what is wrong with the listing is said too.
                 Found::More(rest) => {
-                    write_out(rt, out)?;
+                    let written = write_out(rt, out);
                     unread = rest.read_more(rt, input)?;
+                    written?;
                 }
                 Found::Next(line) => {
                     unread = line.after;
@@ -151,7 +153,9 @@ impl<'a> Asking<'a> {
     }
 }
 
-// Reads the rule files that the arguments give, then answers the listing.
+// Reads the rule files that the arguments give, then answers the listing. Never inlined: its buffers are a megabyte of the stack, which help and a
+// complaint about the question do without.
+#[inline(never)]
 pub fn run(rt: HostRuntime, question: Question) -> Result<(), Said> {
     let first = match question {
         Question::Ignore => 2,

@@ -74,7 +74,9 @@ impl<'a> Out<'a> {
     }
 
     // What is filled.
-    pub fn filled(&self) -> &[u8] {
+    pub fn filled(&self) -> &[u8]
+        ensures { length result.now ≡ self.now.at }
+    {
         &self.bytes[..self.at]
     }
 

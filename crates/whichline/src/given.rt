@@ -1,5 +1,5 @@
 // The rule files that the arguments give, lowest first: each file's bytes, the directory that it stands in, and which argument names it.
-ghost use Rattle.std.specs.Prelude.{◌≡◌, ◌<◌, ◌≤◌, IfOk};
+ghost use Rattle.std.specs.Prelude.{◌≡◌, ◌<◌, ◌≤◌, IfOk, false, take};
 ghost use Rattle.entries.specs.Entries.{without_last_slash};
 
 use crate::messages::Said;
@@ -50,7 +50,9 @@ fn no_option(rt: HostRuntime, i: usize) -> Result<(), Said> {
 
 impl Given {
     // No file is given yet.
-    pub fn none() -> Given {
+    pub fn none() -> Given
+        ensures { (result.count ≡ 0) × (result.bytes ≡ 0) × (result.directory_bytes ≡ 0) × (result.fold ≡ false) }
+    {
         Given {
             files: buffers::rules(),
             file_ends: buffers::numbers(),
@@ -64,25 +66,33 @@ impl Given {
         }
     }
 
-    pub fn files(&self) -> Parts {
+    pub fn files(&self) -> Parts
+        ensures { (result.bytes.now ≡ self.now.files) × (result.ends.now ≡ take self.now.count self.now.file_ends) }
+    {
         Parts {
             bytes: &self.files,
             ends: &self.file_ends[..self.count],
         }
     }
 
-    pub fn directories(&self) -> Parts {
+    pub fn directories(&self) -> Parts
+        ensures { (result.bytes.now ≡ self.now.directories) × (result.ends.now ≡ take self.now.count self.now.directory_ends) }
+    {
         Parts {
             bytes: &self.directories,
             ends: &self.directory_ends[..self.count],
         }
     }
 
-    pub fn names(&self) -> &[usize] {
+    pub fn names(&self) -> &[usize]
+        ensures { result.now ≡ take self.now.count self.now.names }
+    {
         &self.names[..self.count]
     }
 
-    pub fn folds(&self) -> bool {
+    pub fn folds(&self) -> bool
+        ensures { result ≡ self.now.fold }
+    {
         self.fold
     }
 

@@ -1,6 +1,8 @@
 // The paths of a listing, one a line, read piece by piece from standard input.
-ghost use Rattle.std.specs.Prelude.{◌≤◌, ◌<◌, ◌≡◌, length, IfOk};
-ghost use Rattle.whichline.specs.Listing.{nothing_read, line_end, found_line, ended as ended_line, unended as unended_line, looked};
+ghost use Rattle.std.specs.Prelude.{◌≤◌, ◌<◌, ◌≡◌, length, IfOk, MatchOption, false, cond};
+ghost use Rattle.entries.specs.Entries.{without_last_slash};
+ghost use Rattle.whichline.specs.Listing.{nothing_read, line_end, found_line, ended as ended_line, unended as unended_line, looked, holds_line, EntryOf};
+ghost use Rattle.whichline.specs.Places.{after_entry};
 ghost use Rattle.whichline.specs.Bounds.{AtFront};
 
 use crate::fields::Out;
@@ -86,7 +88,9 @@ fn move_front(buf: &mut [u8], start: usize, have: usize) -> usize
 }
 
 impl Line {
-    pub fn entry(self, input: &[u8]) -> Option<Entry> {
+    pub fn entry(self, input: &[u8]) -> Option<Entry>
+        ensures { MatchOption result (holds_line input.now self ≡ false) (λ entry. EntryOf input.now self entry) }
+    {
         let line = input.get(self.start..self.end)?;
         Some(Entry {
             line,
@@ -97,7 +101,9 @@ impl Line {
 
 impl<'a> Entry<'a> {
     // The path: without its last slash, if the line is whole.
-    pub fn path(self) -> &'a [u8] {
+    pub fn path(self) -> &'a [u8]
+        ensures { result.now ≡ cond self.entry.cut self.entry.line.now (without_last_slash self.entry.line.now) }
+    {
         if self.cut {
             return self.line;
         }
@@ -105,7 +111,9 @@ impl<'a> Entry<'a> {
     }
 
     // Puts the path as the listing has it; of a line that is too long, its front and three dots.
-    pub fn put(self, out: &mut Out) {
+    pub fn put(self, out: &mut Out)
+        ensures { out.new ≡ after_entry out.old self.entry }
+    {
         out.put_field(self.line);
         if self.cut {
             out.put(b"...");

@@ -53,7 +53,8 @@ pub fn wrong(rt: HostRuntime, what: &[u8]) -> Said {
 }
 
 // One line on standard error: what is wrong with a file or a directory. Its name is quoted where it is empty or no plain field, so that a message
-// stays one line.
+// stays one line. Never inlined: the answers do without the stack of its buffer.
+#[inline(never)]
 pub fn about(rt: HostRuntime, name: &[u8], what: &[u8]) -> Said {
     let mut buffer = io::large_buffer();
     let mut out = Out::new(&mut buffer);

@@ -1,8 +1,8 @@
 -- Each answer of the matcher is as specs/Answers.antt has it, and a call has one answer.
-use mathlib.Core.Path.{◌≡◌, refl, sym, ap, subst}
+use mathlib.Core.Path.{◌≡◌, refl, sym, ap, subst, ◌∙◌}
 use mathlib.Core.Bool.{Bool, true, false}
 use mathlib.Core.List.{List}
-use Prim.Native.Nat.{ℕ}
+use Prim.Native.Nat.{ℕ, ◌+◌}
 use native.Mathlib.Omega.{arith}
 use Rattle.refusals.specs.Refusals.{Lowest, Accepted, MatcherRefuses}
 use Rattle.bytestrings.proofs.BoolLaws.{not_if_false}
@@ -10,6 +10,7 @@ use Rattle.refusals.proofs.LowestLaws.{lowest_one, lowest_refuses}
 use Rattle.std.specs.Prelude.{None, Some, Result, Ok, Err}
 use Rattle.brokenplaces.specs.BrokenPlaces.{broken_at}
 use Rattle.patterns.specs.Sharing.{Matches}
+use Rattle.std.specs.Prelude.{IfOk, IfErr}
 use Rattle.wildmatch.specs.Answers.{mode_of, Due, Given, Answered, code_of, values_of}
 use Rattle.refusals.specs.declared.refusal.Refusal.{Refusal}
 use Rattle.refusals.specs.Numbers.{number_of}
@@ -93,3 +94,10 @@ answer_fixed (Err r) (Ok Unmatched) e v = absurd (omega arith)
 answer_fixed (Err r) (Ok Matched) e v = absurd (omega arith)
 answer_fixed (Err r) (Ok (Broken k)) e v = absurd (omega arith)
 answer_fixed (Err r) (Err s) e v = ap Err (number_one r s (omega arith))
+
+-- the code of an answer, whose refusal is told by its number
+pub code_given : (a : Result Answer Refusal) (code : ℕ) → IfOk a (λ given. code ≡ code_of (Ok given))
+    → IfErr a (λ r. (number : ℕ) × (number ≡ number_of r) × (code ≡ 16 + number)) → code ≡ code_of a
+unfolding code_of
+code_given (Ok given) code ok refused = ok
+code_given (Err r) code ok refused = refused.2 ∙ ap (λ (n : ℕ). 16 + n) refused.1

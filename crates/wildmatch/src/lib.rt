@@ -2,7 +2,7 @@
 // For a user: docs/RULES.md, "Patterns".
 #![tactic(auto)]
 
-ghost use Rattle.std.specs.Prelude.{◌≡◌};
+ghost use Rattle.std.specs.Prelude.{◌≡◌, ◌+◌, ℕ, Ok, IfOk, IfErr};
 ghost use Rattle.wildmatch.specs.Answers.{mode_of, Answered, code_of};
 
 use brokenplaces::broken_at;
@@ -55,15 +55,16 @@ pub fn wildmatch(pattern: &[u8], text: &[u8], flags: u64) -> Result<Answer, Refu
     }
 }
 
-// The number that C gets for an answer: of a broken pattern without the place.
+// The number that C gets for an answer: of a broken pattern without the place. A refusal is told by whatever has a number.
 #[tactic(auto, unfolding(crate::specs::Answers::code_of))]
-pub fn code_of(answer: Result<Answer, Refusal>) -> u32
-    ensures { result ≡ code_of answer }
+pub fn code_of<R: Into<u8>>(answer: Result<Answer, R>) -> u32
+    ensures answered { IfOk answer (λ given. result ≡ code_of (Ok given)) }
+    ensures refused { IfErr answer (λ refused. (number : ℕ) × R.converts refused number × (result ≡ 16 + number)) }
 {
     match answer {
         Ok(Answer::Unmatched) => 0,
         Ok(Answer::Matched) => 1,
         Ok(Answer::Broken(_)) => 2,
-        Err(refusal) => 16 + u32::from(u8::from(refusal)),
+        Err(refused) => 16 + u32::from(refused.into()),
     }
 }

@@ -3,4 +3,4 @@ use Rattle.std.proofs.Common.{◌≤◌}
 use Rattle.testtables.proofs.row.MatcherRow.run.Given as goal
 
 abbrev pub invariant-loop-i : goal.invariant-loop-i
-invariant-loop-i g l = l.differ ≤ l.i
+invariant-loop-i l = l.differ ≤ l.i

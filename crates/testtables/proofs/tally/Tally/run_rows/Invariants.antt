@@ -1,8 +1,10 @@
--- What was counted before still is, and the section's name is text.
-use denote.Shadow.{shadow}
-use denote.Text.{Utf8}
+-- What was counted before still is, and the rest stands within what the last row begins.
+use Rattle.std.proofs.Common.{◌≤◌, length}
 use Rattle.testtables.specs.Results.{Grown}
 use Rattle.testtables.proofs.tally.Tally.run_rows.Given as goal
 
-abbrev pub invariant-loop-row : goal.invariant-loop-row
-invariant-loop-row g l = Grown l.initial.self l.self × shadow (Utf8 l.section)
+abbrev pub invariant-loop-rest : goal.invariant-loop-rest
+invariant-loop-rest g l = Grown l.initial.self l.self × (length l.rest ≤ length l.last)
+
+abbrev pub decreases-loop-rest : goal.decreases-loop-rest
+decreases-loop-rest g l = length l.rest

@@ -1,0 +1,2 @@
+-- Definitions that no public contract cites.
+pub mod PackedNames
