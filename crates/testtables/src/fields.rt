@@ -1,11 +1,12 @@
 // A row's fields, and the bytes that they write.
-ghost use Rattle.std.specs.Prelude.{◌≡◌, ◌<◌, ◌≤◌, length, IfSome, IfOk, MatchOption, vec_len};
+ghost use Rattle.std.specs.Prelude.{◌≡◌, ◌<◌, ◌≤◌, length, IfSome, OnOk, MatchOption};
+ghost use Rattle.arrayvec.specs.ArrayVec.{array_vec_len};
 ghost use Rattle.testtables.specs.Fields.{hex_value, hex_byte, first_byte, decoded, decoded_within};
 
 use crate::row::RowError;
-use std::alloc::Global;
+use arrayvec::ArrayVec;
 
-// A field writes so many bytes at most, and the files that a row lends together.
+// The most bytes that a field writes, that the files of a row have together, and that an answer has.
 pub const MOST_BYTES: usize = 4096;
 
 // The section of the row that a text begins with: what stands before the last dot of its first field.
@@ -50,22 +51,22 @@ fn first_byte(field: &[u8]) -> Option<(u8, &[u8])>
     }
 }
 
-// The bytes that a field writes, if there is room for them.
+// Puts the bytes that a field writes in place of others, if there is room for them.
 #[tactic(auto, using(crate::proofs::FieldLaws::stopped, crate::proofs::FieldLaws::one_more, crate::proofs::FieldLaws::shorter, crate::proofs::FieldLaws::within_none, crate::proofs::FieldLaws::full), unfolding(crate::specs::Fields::decoded))]
-pub fn decode(alloc: Global, field: &[u8], room: usize) -> Result<Vec<u8>, RowError>
-    ensures ok { IfOk result (λ bytes. decoded field.now ≡ Some bytes.items) }
-    ensures fits { IfOk result (λ bytes. vec_len bytes ≤ room) }
-    ensures malformed { result ≡ Err RowError.Malformed → decoded_within room field.now ≡ None }
+pub fn decode<const ROOM: usize>(
+    field: &[u8],
+    bytes: &mut ArrayVec<u8, ROOM>,
+) -> Result<(), RowError>
+    ensures ok { OnOk result (decoded field.now ≡ Some bytes.new.items) }
+    ensures fits { OnOk result (array_vec_len bytes.new ≤ ROOM) }
+    ensures malformed { result ≡ Err RowError.Malformed → decoded_within ROOM field.now ≡ None }
 {
-    let mut bytes = Vec::new(alloc);
+    bytes.clear();
     let mut rest = field;
     while !rest.is_empty() {
         let (byte, behind) = first_byte(rest).ok_or(RowError::Malformed)?;
-        if bytes.len() == room {
-            return Err(RowError::Malformed);
-        }
-        bytes.push(byte)?;
+        bytes.try_push(byte)?;
         rest = behind;
     }
-    Ok(bytes)
+    Ok(())
 }

@@ -2,9 +2,10 @@
 // Writes each answer that differs, what passed of each section, and the totals.
 #![tactic(auto)]
 
+ghost use Rattle.std.specs.Prelude.{◌≤◌, length};
+
 use std::fs::File;
-use std::io;
-use std::io::{ErrorKind, Read};
+use std::io::Read;
 
 mod fields;
 mod lend;
@@ -18,19 +19,44 @@ use crate::row::{Ran, RowError};
 use crate::tally::Tally;
 
 // A file of so many bytes is not run: it may go on behind them.
-const TOO_LONG: u64 = 65536;
+const TOO_LONG: usize = 65536;
 
-// What a file holds up to its end, to where it is too long, or to where it cannot be read.
-fn read_front(rt: HostRuntime, name: &str) -> io::Result<Vec<u8>> {
-    let mut front = File::open(&rt, name)?.take(TOO_LONG);
-    let mut bytes = Vec::new(rt.alloc());
-    match front.read_to_end(&mut bytes) {
-        Err(e) if e.kind() == ErrorKind::OutOfMemory => Err(e),
-        _ => Ok(bytes),
+// Reads what a file holds up to its end, to where it is too long, or to where it cannot be read, and says how many bytes came.
+fn read_front(file: &mut File, front: &mut [u8]) -> usize
+    ensures { result ≤ length front.new }
+{
+    let mut read = 0;
+    while read < front.len() {
+        let more = file.read(&mut front[read..]).unwrap_or(0);
+        if more == 0 {
+            break;
+        }
+        read += more;
+    }
+    read
+}
+
+// Runs each row of a file by `run`, which gets the whole file too. Never inlined: its buffer is on the stack only while a file is run.
+#[inline(never)]
+fn run_open<F: Fn(&[u8], &[u8]) -> Result<Ran, RowError>>(
+    rt: HostRuntime,
+    name: &str,
+    file: &mut File,
+    tally: &mut Tally,
+    run: F,
+)
+    requires { F.IsAlwaysCallable run }
+{
+    let mut front = [0; TOO_LONG];
+    let read = read_front(file, &mut front);
+    if read == TOO_LONG {
+        report::too_long(rt, name);
+    } else {
+        tally.run_rows(rt, &front[..read], run);
     }
 }
 
-// Runs each row of the file of a name by `run`, which gets the whole file too.
+// Runs the file of a name.
 fn run_file<F: Fn(&[u8], &[u8]) -> Result<Ran, RowError>>(
     rt: HostRuntime,
     name: &str,
@@ -39,45 +65,33 @@ fn run_file<F: Fn(&[u8], &[u8]) -> Result<Ran, RowError>>(
 )
     requires { F.IsAlwaysCallable run }
 {
-    match read_front(rt, name) {
-        Ok(bytes) => {
-            if bytes.len() as u64 == TOO_LONG {
-                report::too_long(rt, name);
-            } else {
-                tally.run_rows(rt, bytes.as_slice(), run);
-            }
-        }
+    match File::open(&rt, name) {
+        Ok(mut file) => run_open(rt, name, &mut file, tally, run),
         Err(e) => report::failed(rt, name, e),
     }
 }
 
-// Document 001's tables have no third answer: broken is 0 there (02, R-14).
+// The tables of the matcher. Document 001's have no third answer: broken is 0 there (02, R-14).
+const MATCHES: [(&str, bool); 2] = [("document-001.tsv", true), ("document-01.tsv", false)];
+
+fn run_matches(rt: HostRuntime, tally: &mut Tally) {
+    for (name, lenient) in MATCHES {
+        run_file(rt, name, tally, |_, row| row::run(rt, row, lenient));
+    }
+}
+
+// The tables of the questions.
+const QUESTIONS: [&str; 2] = ["ignore.tsv", "attributes.tsv"];
+
+fn run_questions(rt: HostRuntime, tally: &mut Tally) {
+    for name in QUESTIONS {
+        run_file(rt, name, tally, |sheet, row| question::run(rt, sheet, row));
+    }
+}
+
 fn main(rt: HostRuntime) {
-    let alloc = rt.alloc();
     let mut tally = Tally::new();
-    run_file(
-        rt,
-        "document-001.tsv",
-        &mut tally,
-        |_, row| row::run(rt, alloc, row, true),
-    );
-    run_file(
-        rt,
-        "document-01.tsv",
-        &mut tally,
-        |_, row| row::run(rt, alloc, row, false),
-    );
-    run_file(
-        rt,
-        "ignore.tsv",
-        &mut tally,
-        |sheet, row| question::run(rt, alloc, sheet, row),
-    );
-    run_file(
-        rt,
-        "attributes.tsv",
-        &mut tally,
-        |sheet, row| question::run(rt, alloc, sheet, row),
-    );
+    run_matches(rt, &mut tally);
+    run_questions(rt, &mut tally);
     report::totals(rt, &tally);
 }

@@ -1,8 +1,9 @@
 // What the program writes. A report that cannot be written is lost: there is nowhere else to write it.
 use crate::row::RowError;
 use crate::tally::Tally;
-use std::io;
+use arrayvec::ArrayVec;
 use std::io::{Error, Write};
+use std::{io, str};
 
 // What a row says may be any bytes, so its fields are written as they are.
 fn say(rt: HostRuntime, parts: &[&[u8]]) {
@@ -27,17 +28,26 @@ pub fn other_mode(rt: HostRuntime, label: &[u8], mode: &str, expected: &[u8], go
 
 // A row that was not run.
 pub fn not_run(rt: HostRuntime, e: RowError, row: &[u8]) {
-    let _ = print!(rt; "{e}");
-    say(rt, &[b": ", row, b"\n"]);
+    match e {
+        RowError::Malformed => say(rt, &[b"malformed: ", row, b"\n"]),
+    }
+}
+
+// Numbers, each with what stands behind it.
+fn counts(rt: HostRuntime, parts: &[(u64, &str)]) {
+    for (number, behind) in parts {
+        let _ = print!(rt; "{number}");
+        say(rt, &[behind.as_bytes()]);
+    }
 }
 
 pub fn section(rt: HostRuntime, name: &[u8], passed: u64, rows: u64) {
-    say(rt, &[name]);
-    let _ = println!(rt; ": {passed}/{rows}");
+    say(rt, &[name, b": "]);
+    counts(rt, &[(passed, "/"), (rows, "\n")]);
 }
 
 pub fn too_long(rt: HostRuntime, name: &str) {
-    let _ = println!(rt; "too long: {name}");
+    say(rt, &[b"too long: ", name.as_bytes(), b"\n"]);
 }
 
 // The words of an error without its number, which std puts behind them. (whichline has its like; the two programs share no crate for it.)
@@ -46,9 +56,13 @@ fn words(said: &str) -> &str {
         .map_or(said, |(front, _)| front)
 }
 
+// The words of an error have so many bytes at most.
+const MOST_WORDS: usize = 256;
+
 fn put_failed(rt: HostRuntime, name: &str, e: Error) -> io::Result<()> {
-    let said = format!(in rt.alloc(); "{e}")?;
-    let why = words(said.as_str());
+    let mut said = ArrayVec::<u8, MOST_WORDS>::new();
+    let _ = write!(said, "{e}");
+    let why = str::from_utf8(said.as_slice()).map_or("failed", words);
     eprintln!(rt; "{name}: {why}")
 }
 
@@ -58,8 +72,13 @@ pub fn failed(rt: HostRuntime, name: &str, e: Error) {
 }
 
 pub fn totals(rt: HostRuntime, t: &Tally) {
-    let _ = println!(rt;
-        "{} malformed\n{} rows, {} answers, {} differ",
-        t.malformed, t.rows, t.answers, t.differ
+    counts(
+        rt,
+        &[
+            (t.malformed, " malformed\n"),
+            (t.rows, " rows, "),
+            (t.answers, " answers, "),
+            (t.differ, " differ\n"),
+        ],
     );
 }

@@ -1,12 +1,12 @@
 // One row of the matcher: its pattern and text put to it in each mode.
 ghost use Rattle.std.specs.Prelude.{◌≤◌, ◌≡◌};
 ghost use Rattle.testtables.specs.Results.{Answers};
-ghost use Rattle.testtables.specs.declared.row.RowError.TheVariants.{OutOfMemory};
+ghost use Rattle.testtables.specs.declared.row.RowError.TheVariants.{Malformed};
 
 use crate::fields::MOST_BYTES;
+use crate::written::Written;
 use crate::{fields, report, written};
-use std::alloc::{AllocError, AllocFailed, Global};
-use std::fmt;
+use arrayvec::{ArrayVec, CapacityError};
 use wildmatch::{Answer, wildmatch};
 
 // What a row that was run came to: how many answers it has, and how many of them differ.
@@ -19,33 +19,15 @@ pub struct Ran {
 // Why a row was not run.
 #[derive(Clone, Copy)]
 pub enum RowError {
-    // It has not the fields of its table, or one of them cannot be read.
+    // It has not the fields of its table, or one of them cannot be read or has no room.
     Malformed,
-    OutOfMemory,
 }
 
-impl fmt::Display for RowError {
-    fn fmt<W: fmt::Write>(&self, f: &mut fmt::Formatter<W>) -> fmt::Result {
-        match self {
-            RowError::Malformed => write!(f, "malformed"),
-            RowError::OutOfMemory => write!(f, "out of memory"),
-        }
-    }
-}
+impl<T: Drop> From<CapacityError<T>> for RowError {
+    ghost from_gives = { λ _ e. e ≡ Malformed };
 
-impl From<AllocError> for RowError {
-    ghost from_gives = { λ _ e. e ≡ OutOfMemory };
-
-    fn from(_e: AllocError) -> RowError {
-        RowError::OutOfMemory
-    }
-}
-
-impl<T: Drop> From<AllocFailed<T>> for RowError {
-    ghost from_gives = { λ _ e. e ≡ OutOfMemory };
-
-    fn from(_e: AllocFailed<T>) -> RowError {
-        RowError::OutOfMemory
+    fn from(_e: CapacityError<T>) -> RowError {
+        RowError::Malformed
     }
 }
 
@@ -80,8 +62,8 @@ const MODES: [Mode; 4] = [
 #[derive(Drop)]
 struct MatcherRow<'a> {
     label: &'a [u8],
-    pattern: Vec<u8>,
-    text: Vec<u8>,
+    pattern: &'a [u8],
+    text: &'a [u8],
     expected: &'a [u8],
     lenient: bool,
 }
@@ -96,41 +78,37 @@ fn expected_in(expected: &[u8], i: usize) -> &[u8] {
 }
 
 impl MatcherRow<'_> {
-    // The matcher's answer, as it is written.
-    fn answer(&self, alloc: Global, flags: u64) -> Result<String, AllocError> {
-        let answer = match wildmatch(self.pattern.as_slice(), self.text.as_slice(), flags) {
+    // Writes the matcher's answer, for which there is room.
+    fn answer(&self, flags: u64, got: &mut Written) {
+        let answer = match wildmatch(self.pattern, self.text, flags) {
             Ok(Answer::Broken(_)) if self.lenient => Ok(Answer::Unmatched),
             given => given,
         };
-        written::matched(alloc, answer)
+        got.clear();
+        let _ = written::matched(got, answer);
     }
 
     // Whether the answer in the i-th mode is another than expected; says so if it is.
-    fn differs(
-        &self,
-        rt: HostRuntime,
-        alloc: Global,
-        i: usize,
-        mode: Mode,
-    ) -> Result<bool, AllocError> {
-        let got = self.answer(alloc, mode.flags)?;
-        let same = got.as_bytes() == expected_in(self.expected, i);
+    fn differs(&self, rt: HostRuntime, i: usize, mode: Mode, got: &mut Written) -> bool {
+        self.answer(mode.flags, got);
+        let same = got.as_slice() == expected_in(self.expected, i);
         if !same {
-            report::other_mode(rt, self.label, mode.name, self.expected, got.as_bytes());
+            report::other_mode(rt, self.label, mode.name, self.expected, got.as_slice());
         }
-        Ok(!same)
+        !same
     }
 
-    fn run(&self, rt: HostRuntime, alloc: Global) -> Result<Ran, RowError>
-        ensures { Answers 4 result }
+    fn run(&self, rt: HostRuntime) -> Ran
+        ensures { (result.answers ≡ 4) × (result.differ ≤ 4) }
     {
+        let mut got = ArrayVec::new();
         let mut differ = 0;
         for (i, mode) in MODES.iter().enumerate() {
-            if self.differs(rt, alloc, i, *mode)? {
+            if self.differs(rt, i, *mode, &mut got) {
                 differ += 1;
             }
         }
-        Ok(Ran { answers: 4, differ })
+        Ran { answers: 4, differ }
     }
 }
 
@@ -143,22 +121,33 @@ fn is_expectation(field: &[u8]) -> bool {
 }
 
 // Runs a row of four fields: its label, its pattern, its text, and the answers expected. Where `lenient`, it reads broken as no match.
-pub fn run(rt: HostRuntime, alloc: Global, row: &[u8], lenient: bool) -> Result<Ran, RowError>
+// Never inlined: its buffers are on the stack only while a row is run.
+#[inline(never)]
+pub fn run(rt: HostRuntime, row: &[u8], lenient: bool) -> Result<Ran, RowError>
     ensures { Answers 4 result }
 {
-    let fields: Vec<&[u8]> = row.splitn(4, |b| *b == b'\t').collect(alloc)?;
-    let &[label, pattern, text, expected] = fields.as_slice() else {
+    let mut fields = row.splitn(4, |b| *b == b'\t');
+    let (Some(label), Some(pattern), Some(text), Some(expected)) = (
+        fields.next(),
+        fields.next(),
+        fields.next(),
+        fields.next(),
+    ) else {
         return Err(RowError::Malformed);
     };
     if !is_expectation(expected) {
         return Err(RowError::Malformed);
     }
+    let mut pattern_bytes = ArrayVec::<u8, MOST_BYTES>::new();
+    let mut text_bytes = ArrayVec::<u8, MOST_BYTES>::new();
+    fields::decode(pattern, &mut pattern_bytes)?;
+    fields::decode(text, &mut text_bytes)?;
     let row = MatcherRow {
         label,
-        pattern: fields::decode(alloc, pattern, MOST_BYTES)?,
-        text: fields::decode(alloc, text, MOST_BYTES)?,
+        pattern: pattern_bytes.as_slice(),
+        text: text_bytes.as_slice(),
         expected,
         lenient,
     };
-    row.run(rt, alloc)
+    Ok(row.run(rt))
 }

@@ -53,7 +53,8 @@ pub fn wrong(rt: HostRuntime, what: &[u8]) -> Said {
 }
 
 // One line on standard error: what is wrong with a file or a directory. Its name is quoted where it is empty or no plain field, so that a message
-// stays one line. Never inlined: the answers do without the stack of its buffer.
+// stays one line. Its parts are written apart: where standard error has no room for one, the next may still be said.
+// Never inlined: the answers do without the stack of its buffer.
 #[inline(never)]
 pub fn about(rt: HostRuntime, name: &[u8], what: &[u8]) -> Said {
     let mut buffer = io::large_buffer();
@@ -64,10 +65,10 @@ pub fn about(rt: HostRuntime, name: &[u8], what: &[u8]) -> Said {
     } else {
         out.put_field(name);
     }
-    out.put(b": ");
-    out.put(what);
-    out.put(b"\n");
     complain(rt, out.filled());
+    complain(rt, b": ");
+    complain(rt, what);
+    complain(rt, b"\n");
     Said
 }
 
