@@ -56,15 +56,37 @@ fn without_end(piece: &[u8], end: u8) -> &[u8] {
     }
 }
 
-// What a line, with its newline, says of the file with this name: what stands behind its tab. Where the sheet ends there, nothing is said.
-fn defined<'a>(line: &'a [u8], name: &[u8]) -> Option<&'a [u8]> {
-    let said = line.strip_prefix(b"=")?;
-    let tab = said.iter().position(|b| *b == b'\t')?;
-    let bytes = &said[tab + 1..];
-    (&said[..tab] == name && !bytes.is_empty()).then_some(without_end(bytes, b'\n'))
+// What a line says of the file with this name, behind the `=` that it begins with: what stands behind the name and a tab. Where the sheet ends there,
+// nothing is said.
+fn defined<'a>(said: &'a [u8], name: &[u8]) -> Option<&'a [u8]> {
+    let [b'\t', bytes @ ..] = said.strip_prefix(name)? else {
+        return None;
+    };
+    let end = bytes
+        .iter()
+        .position(|b| *b == b'\n')
+        .unwrap_or(bytes.len());
+    (!bytes.is_empty()).then_some(&bytes[..end])
 }
 
-// Lends a file of a row, behind those before it, if there is room for it. Its bytes are put into `bytes` first.
+// What the first line of the sheet that says the file with this name says of it. From one `=` to the next, since a sheet may have many short lines.
+fn said_of<'a>(sheet: &'a [u8], name: &[u8]) -> Option<&'a [u8]> {
+    let mut rest = sheet;
+    let mut begins = true;
+    while let Some(at) = rest.iter().position(|b| *b == b'=') {
+        let behind = &rest[at + 1..];
+        if rest[..at].last().map_or(begins, |b| *b == b'\n') {
+            if let Some(bytes) = defined(behind, name) {
+                return Some(bytes);
+            }
+        }
+        rest = behind;
+        begins = false;
+    }
+    None
+}
+
+// Lends a file of a row, behind those before it, if there is room for it.
 fn lend_file(
     sheet: &[u8],
     file: &[u8],
@@ -76,12 +98,9 @@ fn lend_file(
         .position(|b| *b == b'=')
         .ok_or(RowError::Malformed)?;
     let name = &file[sign + 1..];
-    let field = sheet
-        .split_inclusive(|b| *b == b'\n')
-        .find_map(|line| defined(line, name))
-        .ok_or(RowError::Malformed)?;
+    let field = said_of(sheet, name).ok_or(RowError::Malformed)?;
     fields::decode(field, bytes)?;
-    // Asked before the rules grow, since what is lent has an end for all of them.
+    // Asked before the rules grow: what is lent stays whole where there is no room for one end more.
     if lent.ends.is_full() {
         return Err(RowError::Malformed);
     }
@@ -91,7 +110,7 @@ fn lend_file(
     Ok(())
 }
 
-// Lends the files of a row, with a space between two. `bytes` is room for those of one.
+// Lends the files of a row, with a space between two. The bytes of each are put into `bytes` first.
 pub fn lend(
     sheet: &[u8],
     files: &[u8],

@@ -21,7 +21,7 @@ struct QuestionRow<'a> {
 }
 
 impl QuestionRow<'_> {
-    // Puts the question, and writes the answer, for which there is room.
+    // Puts the question, and writes the answer into `got`, which is empty and has room for it.
     fn answer(&self, path: &[u8], files: &RuleFiles, got: &mut Written) -> Result<(), RowError> {
         let _ = match self.asked {
             [digit @ b'0'..=b'9'] => {

@@ -3,7 +3,7 @@ use crate::row::RowError;
 use crate::tally::Tally;
 use arrayvec::ArrayVec;
 use std::io::{Error, Write};
-use std::{io, str};
+use std::str;
 
 // What a row says may be any bytes, so its fields are written as they are.
 fn say(rt: HostRuntime, parts: &[&[u8]]) {
@@ -59,16 +59,12 @@ fn words(said: &str) -> &str {
 // The words of an error have so many bytes at most.
 const MOST_WORDS: usize = 256;
 
-fn put_failed(rt: HostRuntime, name: &str, e: Error) -> io::Result<()> {
+// Says on standard error that a file cannot be read, and why.
+pub fn failed(rt: HostRuntime, name: &str, e: Error) {
     let mut said = ArrayVec::<u8, MOST_WORDS>::new();
     let _ = write!(said, "{e}");
     let why = str::from_utf8(said.as_slice()).map_or("failed", words);
-    eprintln!(rt; "{name}: {why}")
-}
-
-// Says on standard error that a file cannot be read, and why.
-pub fn failed(rt: HostRuntime, name: &str, e: Error) {
-    let _ = put_failed(rt, name, e);
+    let _ = eprintln!(rt; "{name}: {why}");
 }
 
 pub fn totals(rt: HostRuntime, t: &Tally) {

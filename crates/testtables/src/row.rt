@@ -78,7 +78,7 @@ fn expected_in(expected: &[u8], i: usize) -> &[u8] {
 }
 
 impl MatcherRow<'_> {
-    // Writes the matcher's answer, for which there is room.
+    // Writes the matcher's answer into `got`, which has room for it.
     fn answer(&self, flags: u64, got: &mut Written) {
         let answer = match wildmatch(self.pattern, self.text, flags) {
             Ok(Answer::Broken(_)) if self.lenient => Ok(Answer::Unmatched),

@@ -10,7 +10,7 @@ use std::io;
 use std::io::Write;
 use wildmatch::Answer;
 
-// An answer as it is written. There is room for each, since a value is no longer than a line.
+// An answer as it is written. There is room for each, since a value is no longer than a line, 2,048 bytes.
 pub type Written = ArrayVec<u8, MOST_BYTES>;
 
 // A word, and numbers behind it.

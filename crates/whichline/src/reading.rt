@@ -13,7 +13,8 @@ use std::str;
 // that this variable names.
 const LINKS: &str = "WHICHLINE_LINKS";
 
-// Puts the name of the link of argument `i`: nothing where none is lent.
+// Puts the name of the link of argument `i`: nothing where none is lent. Never inlined, as `open_link`.
+#[inline(never)]
 fn put_link(rt: HostRuntime, i: usize, out: &mut Out) {
     let mut folder = io::buffer();
     if let Ok(n) = rt.var(LINKS, &mut folder) {
@@ -23,7 +24,8 @@ fn put_link(rt: HostRuntime, i: usize, out: &mut Out) {
     }
 }
 
-// Opens the file of argument `i` by its link.
+// Opens the file of argument `i` by its link. Never inlined: other files are read without the stack of its buffers.
+#[inline(never)]
 fn open_link(rt: HostRuntime, i: usize) -> Result<File, Error> {
     let mut path = io::buffer();
     let mut out = Out::new(&mut path);
